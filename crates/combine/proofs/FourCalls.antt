@@ -2,6 +2,7 @@
 -- block.
 use Prim.Native.Nat.{ℕ, zero, suc, ◌+◌, ◌-◌, ◌/◌, ◌^◌, ◌≤◌, ◌<◌}
 use mathlib.Core.Path.{◌≡◌, refl}
+use Rattle.std.specs.Prelude.{None}
 use mathlib.Core.List.{List}
 use native.Mathlib.Omega.{arith}
 use lib.ListN.{length}
@@ -21,7 +22,7 @@ use Rattle.combine.proofs.BothLists.{BetweenQuadrants, between_all, between_seen
 
 module _ {bits₁ bits₂ table : List ℕ} {s₂ step : ℕ} {x : Pair} (a : CombineAsked bits₁ bits₂ table s₂ step x) where
   -- a listed block has a record to read
-  pub records_there : (x.first.leaf ≡ 0 → x.first.at < length bits₁) × (x.second.leaf ≡ 0 → x.second.at < length bits₂)
+  pub records_there : (x.first.leaf ≡ None → x.first.at < length bits₁) × (x.second.leaf ≡ None → x.second.at < length bits₂)
   records_there = ((λ z. shown_room (a.seen.first_at.listed z)), (λ z. shown_room (a.seen.second_at.listed z)))
 
   -- the step is more than that of the quadrants

@@ -31,8 +31,8 @@ module _ {m : ℕ} {keys₁ bits₁ : List ℕ} {n₁ : ℕ} {keys₂ bits₂ : 
   root_seen : {step : ℕ} → step ≡ 5 ^ m → Seen (shown_by m keys₁ bits₁ n₁) (shown_by m keys₂ bits₂ n₂) m 0 0 0 bits₁ bits₂ step both_roots
   root_seen e = record {
     step_is = e;
-    first_at = record { inside = λ h. absurd (h refl); listed = λ z. root_shown y.first_own };
-    second_at = record { inside = λ h. absurd (h refl); listed = λ z. root_shown y.second_own };
+    first_at = record { inside = λ b h. absurd (let f = h in cc); listed = λ z. root_shown y.first_own };
+    second_at = record { inside = λ b h. absurd (let f = h in cc); listed = λ z. root_shown y.second_own };
   }
 
   first_asked : {step : ℕ} → step ≡ 5 ^ m → CombineAsked bits₁ bits₂ table s₂ step both_roots

@@ -1,7 +1,7 @@
 -- What the counting and the writing of one block of two combined lists ask and answer, for the contracts of src/ alone. A list is read by its
 -- bitstrings: a block is listed at a place, or lies inside a leaf whose bits are carried along. The pictures that the two lists show are named in
 -- what is asked; what is answered holds of whichever pictures they show.
-use Rattle.std.specs.Prelude.{ℕ, ◌+◌, ◌*◌, ◌^◌, ◌≤◌, ◌<◌, ◌≡◌, true, cond, List, eqb, length, get_or}
+use Rattle.std.specs.Prelude.{Option, None, Some, ℕ, ◌+◌, ◌*◌, ◌^◌, ◌≤◌, ◌<◌, ◌≡◌, true, cond, List, length, get_or}
 use Rattle.keys.specs.Key.{slot_limit}
 use Rattle.definitions.specs.Picture.{Picture, features_below}
 use Rattle.definitions.specs.Bits.{bits_of}
@@ -14,23 +14,39 @@ use Rattle.keys.specs.declared.span.KeySpan.{KeySpan}
 use Rattle.combine.specs.declared.cursor.Cursor.{Cursor}
 use Rattle.combine.specs.declared.cursor.Pair.{Pair}
 
--- where a list stands at a block: inside a leaf of the given bits, or, where those are 0, at the block's own record
+-- where a list stands at a block: inside a leaf of the given bits, or, where it is in none, at the block's own record
 pub record At (p : Picture) (k r c κ : ℕ) (bits : List ℕ) (x : Cursor) : Type 0 where
-  pub inside : (x.leaf ≡ 0 → ⊥) → (x.leaf ≡ bits_of p k r c) × (one_slot x.leaf ≡ true)
-  pub listed : x.leaf ≡ 0 → ShownAt p k r c κ bits x.at
+  pub inside : (b : ℕ) → x.leaf ≡ Some b → (b ≡ bits_of p k r c) × (one_slot b ≡ true)
+  pub listed : x.leaf ≡ None → ShownAt p k r c κ bits x.at
 
--- the bits of a leaf, and 0 for a node
-abbrev pub leaf_of : ℕ → ℕ
-leaf_of own = cond (one_slot own) own 0
+-- the bits of a leaf, and none for a node
+abbrev pub leaf_of : ℕ → Option ℕ
+leaf_of own = cond (one_slot own) (Some own) None
+
+-- the leaf after a block's own bits were read, where it has a record, and how many records were read
+abbrev pub leaf_in : Option ℕ → ℕ → Option ℕ
+leaf_in None own = leaf_of own
+leaf_in (Some b) own = Some b
+
+abbrev pub read_in : Option ℕ → ℕ
+read_in None = 1
+read_in (Some b) = 0
 
 -- once the block's own record is read, where it has one: the bits of the leaf around its quadrants, and the place of what follows
 pub record Entered (bits : List ℕ) (x y : Cursor) : Type 0 where
-  pub leaf_is : y.leaf ≡ cond (eqb x.leaf 0) (leaf_of (get_or bits x.at 0)) x.leaf
-  pub at_is : y.at ≡ x.at + cond (eqb x.leaf 0) 1 0
+  pub leaf_is : y.leaf ≡ leaf_in x.leaf (get_or bits x.at 0)
+  pub at_is : y.at ≡ x.at + read_in x.leaf
+
+-- the bits of two leaves
+abbrev pub both_of : Option ℕ → Option ℕ → Option (ℕ × ℕ)
+both_of None second = None
+both_of (Some a) None = None
+both_of (Some a) (Some b) = Some (a, b)
 
 -- how many records are passed with the block
-abbrev pub passing : Picture → ℕ → ℕ → ℕ → ℕ → ℕ → ℕ
-passing p k r c κ leaf = cond (eqb leaf 0) (length (list_of p k r c κ)) 0
+abbrev pub passing : Picture → ℕ → ℕ → ℕ → ℕ → Option ℕ → ℕ
+passing p k r c κ None = length (list_of p k r c κ)
+passing p k r c κ (Some b) = 0
 
 -- once the block is passed: inside the leaf as before, and at the place after the block
 pub record CursorPassed (p : Picture) (k r c κ : ℕ) (x y : Cursor) : Type 0 where
@@ -39,7 +55,7 @@ pub record CursorPassed (p : Picture) (k r c κ : ℕ) (x y : Cursor) : Type 0 w
 
 -- both lists before the root's record
 abbrev pub both_roots : Pair
-both_roots = record { first = record { leaf = 0; at = 0 }; second = record { leaf = 0; at = 0 } }
+both_roots = record { first = record { leaf = None; at = 0 }; second = record { leaf = None; at = 0 } }
 
 -- the leaves of one pair, and the places of another
 abbrev pub passed_to : (x y : Pair) → Pair

@@ -26,8 +26,8 @@ pub fn count_block(
     ensures { CombinedCounted bits1.now bits2.now table.now s2 step at result.tally.bits result.tally.count result.next }
 {
     let here = cursor::enter_both(bits1, bits2, at);
-    if (here.first.leaf != 0) & (here.second.leaf != 0) {
-        let bits = classes::class_bits(table, s2, here.first.leaf, here.second.leaf);
+    if let Some(leaves) = cursor::both_leaves(here) {
+        let bits = classes::class_bits(table, s2, leaves.0, leaves.1);
         let tally = Tally { bits, count: 1 };
         let next = cursor::passed(at, here);
         return CombinedTally { tally, next };

@@ -1,13 +1,13 @@
 // A cursor into each of two lists: both are gone down together, and where one has a leaf it waits while the other goes on below.
-ghost use Rattle.std.specs.Prelude.{◌≡◌, ◌<◌, length};
-ghost use Rattle.combine.specs.Combining.{Entered, BothEntered, both_roots, passed_to};
+ghost use Rattle.std.specs.Prelude.{◌≡◌, ◌<◌, length, None};
+ghost use Rattle.combine.specs.Combining.{Entered, BothEntered, both_roots, both_of, passed_to};
 
 use list::check;
 
-// The bits of the leaf that a block is or lies in, 0 for a node; and the place of what follows.
+// The bits of the leaf that a block is or lies in, where it is no node; and the place of what follows.
 #[derive(Clone, Copy)]
 pub struct Cursor {
-    pub leaf: u32,
+    pub leaf: Option<u32>,
     pub at: usize,
 }
 
@@ -22,7 +22,7 @@ pub struct Pair {
 pub fn at_roots() -> Pair
     ensures { result ≡ both_roots }
 {
-    let root = Cursor { leaf: 0, at: 0 };
+    let root = Cursor { leaf: None, at: 0 };
     Pair {
         first: root,
         second: root,
@@ -31,32 +31,43 @@ pub fn at_roots() -> Pair
 
 // Reads the record of a block, if it has one: inside a leaf there is none to read.
 fn enter(bits: &[u32], cursor: Cursor) -> Cursor
-    requires { cursor.leaf ≡ 0 → cursor.at < length bits.now }
+    requires { cursor.leaf ≡ None → cursor.at < length bits.now }
     ensures { Entered bits.now cursor result }
 {
-    if cursor.leaf != 0 {
+    if let Some(_leaf) = cursor.leaf {
         return cursor;
     }
-    let at = cursor.at;
-    let own = bits[at];
-    let next = at + 1;
+    let own = bits[cursor.at];
+    let next = cursor.at + 1;
     if check::has_one_slot(own) {
         return Cursor {
-            leaf: own,
+            leaf: Some(own),
             at: next,
         };
     }
-    Cursor { leaf: 0, at: next }
+    Cursor {
+        leaf: None,
+        at: next,
+    }
 }
 
 // Reads the records of a block in both lists.
 pub fn enter_both(bits1: &[u32], bits2: &[u32], at: Pair) -> Pair
-    requires { (at.first.leaf ≡ 0 → at.first.at < length bits1.now) × (at.second.leaf ≡ 0 → at.second.at < length bits2.now) }
+    requires { (at.first.leaf ≡ None → at.first.at < length bits1.now) × (at.second.leaf ≡ None → at.second.at < length bits2.now) }
     ensures { BothEntered bits1.now bits2.now at result }
 {
     let first = enter(bits1, at.first);
     let second = enter(bits2, at.second);
     Pair { first, second }
+}
+
+// The bits of both leaves, where the block is or lies in a leaf in both lists.
+pub fn both_leaves(here: Pair) -> Option<(u32, u32)>
+    ensures { result ≡ both_of here.first.leaf here.second.leaf }
+{
+    let first = here.first.leaf?;
+    let second = here.second.leaf?;
+    Some((first, second))
 }
 
 // Past a block: each is inside the leaf that it was in, and at the place to which the block was read.

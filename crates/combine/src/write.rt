@@ -31,8 +31,8 @@ pub fn write_block(
 {
     let here = cursor::enter_both(bits1, bits2, at);
     let first = place + 1;
-    if (here.first.leaf != 0) & (here.second.leaf != 0) {
-        let own = classes::class_bits(table, s2, here.first.leaf, here.second.leaf);
+    if let Some(leaves) = cursor::both_leaves(here) {
+        let own = classes::class_bits(table, s2, leaves.0, leaves.1);
         let below = Below {
             bits: own,
             next: first,

@@ -19,12 +19,12 @@ class_bits-bits-requires t c =
     let a = c.requires in
     let e = c.enter_both-here.ensures in
     record {
-      first_value = leaves_slots a.seen e c.if-here.true;
-      second_in_bounds = leaves_named a.seen e c.if-here.true a.named;
+      first_value = leaves_slots _ a.seen e c.in-Some.ensures;
+      second_in_bounds = leaves_named _ a.seen e c.in-Some.ensures a.named;
     }
 
-pub returns-then-here : goal.returns-then-here
-returns-then-here t c = leaves_counted c.enter_both-here.ensures c.if-here.true c.class_bits-bits.ensures c.passed-next.ensures
+pub returns-in-Some : goal.returns-in-Some
+returns-in-Some t c = leaves_counted _ c.enter_both-here.ensures c.in-Some.ensures c.class_bits-bits.ensures c.passed-next.ensures
 
 -- what the call for the next quadrant asks
 calls : {bits₁ bits₂ table : List ℕ} {s₂ step : ℕ} {x y z : Pair} {d : ℕ} (a : CombineAsked bits₁ bits₂ table s₂ step x)
@@ -32,28 +32,28 @@ calls : {bits₁ bits₂ table : List ℕ} {s₂ step : ℕ} {x y z : Pair} {d :
 calls a e n t m b h = let f = step_falls a in (omega arith, asks a e n b h)
 
 pub count_block-nw-requires : goal.count_block-nw-requires
-count_block-nw-requires t c = calls c.requires c.enter_both-here.ensures c.if-here.false t c.decreases (going c.requires c.enter_both-here.ensures c.if-here.false) (omega arith)
+count_block-nw-requires t c = calls c.requires c.enter_both-here.ensures c.in_default.ensures t c.decreases (going c.requires c.enter_both-here.ensures c.in_default.ensures) (omega arith)
 
 pub count_block-ne-requires : goal.count_block-ne-requires
-count_block-ne-requires t c = calls c.requires c.enter_both-here.ensures c.if-here.false t c.decreases (between_next (going c.requires c.enter_both-here.ensures c.if-here.false) (omega arith) c.count_block-nw.ensures.passes) (omega arith)
+count_block-ne-requires t c = calls c.requires c.enter_both-here.ensures c.in_default.ensures t c.decreases (between_next (going c.requires c.enter_both-here.ensures c.in_default.ensures) (omega arith) c.count_block-nw.ensures.passes) (omega arith)
 
 pub count_block-sw-requires : goal.count_block-sw-requires
 count_block-sw-requires t c =
-    let b = between_next (going c.requires c.enter_both-here.ensures c.if-here.false) (omega arith) c.count_block-nw.ensures.passes in
-    calls c.requires c.enter_both-here.ensures c.if-here.false t c.decreases (between_next b (omega arith) c.count_block-ne.ensures.passes) (omega arith)
+    let b = between_next (going c.requires c.enter_both-here.ensures c.in_default.ensures) (omega arith) c.count_block-nw.ensures.passes in
+    calls c.requires c.enter_both-here.ensures c.in_default.ensures t c.decreases (between_next b (omega arith) c.count_block-ne.ensures.passes) (omega arith)
 
 pub count_block-se-requires : goal.count_block-se-requires
 count_block-se-requires t c =
-    let b = between_next (going c.requires c.enter_both-here.ensures c.if-here.false) (omega arith) c.count_block-nw.ensures.passes in
+    let b = between_next (going c.requires c.enter_both-here.ensures c.in_default.ensures) (omega arith) c.count_block-nw.ensures.passes in
     let g = between_next b (omega arith) c.count_block-ne.ensures.passes in
-    calls c.requires c.enter_both-here.ensures c.if-here.false t c.decreases (between_next g (omega arith) c.count_block-sw.ensures.passes) (omega arith)
+    calls c.requires c.enter_both-here.ensures c.in_default.ensures t c.decreases (between_next g (omega arith) c.count_block-sw.ensures.passes) (omega arith)
 
 pub joined-tally-requires : goal.joined-tally-requires
 joined-tally-requires t c =
-    four_small c.enter_both-here.ensures c.if-here.false c.count_block-nw.ensures c.count_block-ne.ensures c.count_block-sw.ensures
+    four_small c.enter_both-here.ensures c.in_default.ensures c.count_block-nw.ensures c.count_block-ne.ensures c.count_block-sw.ensures
     c.count_block-se.ensures c.requires
 
 pub returns : goal.returns
 returns t c =
-    node_counted c.enter_both-here.ensures c.if-here.false c.count_block-nw.ensures c.count_block-ne.ensures c.count_block-sw.ensures
+    node_counted c.enter_both-here.ensures c.in_default.ensures c.count_block-nw.ensures c.count_block-ne.ensures c.count_block-sw.ensures
     c.count_block-se.ensures c.joined-tally.ensures c.passed-next-2.ensures

@@ -23,12 +23,12 @@ class_bits-own-requires t c =
     let a = c.requires.asked in
     let e = c.enter_both-here.ensures in
     record {
-      first_value = leaves_slots a.seen e c.if-here.true;
-      second_in_bounds = leaves_named a.seen e c.if-here.true a.named;
+      first_value = leaves_slots _ a.seen e c.in-Some.ensures;
+      second_in_bounds = leaves_named _ a.seen e c.in-Some.ensures a.named;
     }
 
-pub returns-then-here : goal.returns-then-here
-returns-then-here t c = leaves_made c.enter_both-here.ensures c.if-here.true c.class_bits-own.ensures c.passed-next.ensures _ _ _
+pub returns-in-Some : goal.returns-in-Some
+returns-in-Some t c = leaves_made _ c.enter_both-here.ensures c.in-Some.ensures c.class_bits-own.ensures c.passed-next.ensures _ _ _
 
 module _ {bits₁ bits₂ table : List ℕ} {s₂ : ℕ} {span : KeySpan} {x : Pair} {place : ℕ} {keys bits : List ℕ}
     (w : CombineWriteAsked bits₁ bits₂ table s₂ span x place keys bits) where
@@ -41,18 +41,18 @@ module _ {bits₁ bits₂ table : List ℕ} {s₂ : ℕ} {span : KeySpan} {x : P
 pub write_block-nw-requires : goal.write_block-nw-requires
 write_block-nw-requires t c =
     let f = c.child.ensures in
-    (lower c.requires t c.decreases 1 f, writes_nw c.requires c.enter_both-here.ensures c.if-here.false f)
+    (lower c.requires t c.decreases 1 f, writes_nw c.requires c.enter_both-here.ensures c.in_default.ensures f)
 
 pub write_block-ne-requires : goal.write_block-ne-requires
 write_block-ne-requires t c =
     let f = c.child-2.ensures in
-    (lower c.requires t c.decreases 2 f, writes_ne c.requires c.enter_both-here.ensures c.if-here.false c.child.ensures c.write_block-nw.ensures f)
+    (lower c.requires t c.decreases 2 f, writes_ne c.requires c.enter_both-here.ensures c.in_default.ensures c.child.ensures c.write_block-nw.ensures f)
 
 pub write_block-sw-requires : goal.write_block-sw-requires
 write_block-sw-requires t c =
     let f = c.child-3.ensures in (
       lower c.requires t c.decreases 3 f,
-      writes_sw c.requires c.enter_both-here.ensures c.if-here.false
+      writes_sw c.requires c.enter_both-here.ensures c.in_default.ensures
           c.child.ensures c.write_block-nw.ensures
           c.child-2.ensures c.write_block-ne.ensures f,
     )
@@ -61,7 +61,7 @@ pub write_block-se-requires : goal.write_block-se-requires
 write_block-se-requires t c =
     let f = c.child-4.ensures in (
       lower c.requires t c.decreases 4 f,
-      writes_se c.requires c.enter_both-here.ensures c.if-here.false
+      writes_se c.requires c.enter_both-here.ensures c.in_default.ensures
           c.child.ensures c.write_block-nw.ensures
           c.child-2.ensures c.write_block-ne.ensures
           c.child-3.ensures c.write_block-sw.ensures f,
@@ -69,7 +69,7 @@ write_block-se-requires t c =
 
 pub write_four-below-requires : goal.write_four-below-requires
 write_four-below-requires t c =
-    four_asked c.requires c.enter_both-here.ensures c.if-here.false
+    four_asked c.requires c.enter_both-here.ensures c.in_default.ensures
     c.child.ensures c.write_block-nw.ensures
     c.child-2.ensures c.write_block-ne.ensures
     c.child-3.ensures c.write_block-sw.ensures
@@ -77,7 +77,7 @@ write_four-below-requires t c =
 
 pub returns : goal.returns
 returns t c =
-    node_made c.requires c.enter_both-here.ensures c.if-here.false
+    node_made c.requires c.enter_both-here.ensures c.in_default.ensures
     c.child.ensures c.write_block-nw.ensures
     c.child-2.ensures c.write_block-ne.ensures
     c.child-3.ensures c.write_block-sw.ensures
