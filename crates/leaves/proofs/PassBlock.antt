@@ -1,6 +1,6 @@
 -- What the pass over a block's leaves answers: where none is left, where the next is the block, where a pixel's is another, and by its quadrants.
 -- Rests on Quarters and on build's laws of counting.
-use Prim.Native.Nat.{ℕ, zero, suc, ◌+◌, ◌-◌, ◌/◌, ◌^◌, ◌≤◌, ◌<◌}
+use Prim.Native.Nat.{ℕ, zero, suc, ◌+◌, ◌-◌, ◌*◌, ◌/◌, ◌^◌, ◌≤◌, ◌<◌}
 use mathlib.Core.Path.{◌≡◌, refl, sym, ◌∙◌, ap}
 use mathlib.Core.List.{List}
 use native.Mathlib.Nat.{pow-suc}
@@ -17,18 +17,14 @@ use Rattle.list.specs.Check.{one_slot}
 use Rattle.build.specs.BuildBlocks.{Tallied, Joined}
 use Rattle.build.specs.declared.count.Tally.{Tally}
 use Rattle.build.proofs.CountBlock.{tallied_pixel, tallied_one, tallied_four}
-use Rattle.leaves.specs.Delivered.{leaves_end, Parted, leaf, four, wrong_pass, leaf_pass, LeavesAsked, LeavesPassed}
+use Rattle.leaves.specs.Delivered.{leaves_end, Parted, leaf, four, leaf_pass, LeavesAsked, LeavesLost, LeavesPassed}
 use Rattle.leaves.specs.declared.count.Pass.{Pass}
 use Rattle.leaves.proofs.EndOf.{end_none, end_leaf, end_other}
 use Rattle.leaves.proofs.Quarters.{quarters, last_is, parted_there, step_below}
 
 module _ (keys features : List ℕ) (span : KeySpan) (at : ℕ) where
-  pub passed_none : length keys ≤ at → LeavesPassed keys features span at (wrong_pass keys)
-  passed_none h = record {
-    next-is = λ k e. sym (end_none keys k span.key at h);
-    small = λ k e. let p = five_pos k in omega arith;
-    tally = λ p k r c e t. absurd (let j = parted_there t in omega arith);
-  }
+  pub lost_none : length keys ≤ at → LeavesLost keys span at
+  lost_none h = λ k e. sym (end_none keys k span.key at h)
 
   module _ (h : at < length keys) where
     pub passed_leaf : get_or keys at 0 ≡ span.key → LeavesPassed keys features span at (leaf_pass features at)
@@ -52,12 +48,61 @@ module _ (keys features : List ℕ) (span : KeySpan) (at : ℕ) where
         other_end zero e = sym (end_other keys span.key at h n)
         other_end (suc k) e = absurd (no_more k e)
 
-        other_tally : (p : Picture) (k r c : ℕ) → span.step ≡ 5 ^ k → Parted p keys features k r c span.key at → Tallied p k r c 0 1
-        other_tally p k r c e (leaf i e' o f) = absurd (n e')
-        other_tally p (suc k) r c e (four i m x y z w) = absurd (no_more k e)
+        pub lost_other : LeavesLost keys span at
+        lost_other = other_end
 
-        pub passed_other : LeavesPassed keys features span at (wrong_pass keys)
-        passed_other = record { next-is = other_end; small = λ k e. let p = five_pos k in omega arith; tally = other_tally }
+      -- the leaves of a quadrant are not there, and so nothing of those that would follow
+      module _ (high : span.step ≡ 1 → ⊥) where
+        abbrev lost : ℕ
+        lost = length keys + 1
+
+        stays_lost : (k κ : ℕ) → lost ≡ leaves_end keys k κ lost
+        stays_lost k κ = sym (end_none keys k κ lost (omega arith))
+
+        module _ (second third fourth : ℕ)
+            (four : (k : ℕ) → span.step / 5 ≡ 5 ^ k → (second ≡ leaves_end keys k (span.key + span.step / 5) at)
+            × ((third ≡ leaves_end keys k (span.key + 2 * (span.step / 5)) second)
+            × ((fourth ≡ leaves_end keys k (span.key + 3 * (span.step / 5)) third)
+            × (lost ≡ leaves_end keys k (span.key + 4 * (span.step / 5)) fourth)))) where
+          lost_four : LeavesLost keys span at
+          lost_four zero e = absurd (high e)
+          lost_four (suc k) e =
+              let g = fifth_of k e in
+              let q = four k g in
+              last_is keys k span.key (span.step / 5) at second third fourth g q.0 q.1.0 q.1.1.0 lost h n q.1.1.1
+
+        module _ {q₁ : KeySpan} (f₁ : q₁ ≡ child_span span 1) where
+          pub lost_nw : LeavesLost keys q₁ at → LeavesLost keys span at
+          lost_nw l =
+              let m : LeavesLost keys (record { key = span.key + span.step / 5; step = span.step / 5 }) at = rw (child_first span f₁) at l in
+              lost_four lost lost lost (λ k g. (m k g, (stays_lost k _, (stays_lost k _, stays_lost k _))))
+
+          module _ {x₁ : Pass} (w₁ : LeavesPassed keys features q₁ at x₁) where
+            first_next : (k : ℕ) → span.step / 5 ≡ 5 ^ k → x₁.next ≡ leaves_end keys k (span.key + span.step / 5) at
+            first_next k g = let m : LeavesPassed keys features (record { key = span.key + span.step / 5; step = span.step / 5 }) at x₁ = rw (child_first span f₁) at w₁ in m.next-is k g
+
+            pub lost_ne : {q₂ : KeySpan} → q₂ ≡ child_span span 2 → LeavesLost keys q₂ x₁.next → LeavesLost keys span at
+            lost_ne f₂ l =
+                let m : LeavesLost keys (child_span span 2) x₁.next = rw f₂ at l in
+                lost_four x₁.next lost lost (λ k g. (first_next k g, (m k g, (stays_lost k _, stays_lost k _))))
+
+            module _ {q₂ : KeySpan} (f₂ : q₂ ≡ child_span span 2) {x₂ : Pass} (w₂ : LeavesPassed keys features q₂ x₁.next x₂) where
+              second_next : (k : ℕ) → span.step / 5 ≡ 5 ^ k → x₂.next ≡ leaves_end keys k (span.key + 2 * (span.step / 5)) x₁.next
+              second_next k g = let m : LeavesPassed keys features (child_span span 2) x₁.next x₂ = rw f₂ at w₂ in m.next-is k g
+
+              pub lost_sw : {q₃ : KeySpan} → q₃ ≡ child_span span 3 → LeavesLost keys q₃ x₂.next → LeavesLost keys span at
+              lost_sw f₃ l =
+                  let m : LeavesLost keys (child_span span 3) x₂.next = rw f₃ at l in
+                  lost_four x₁.next x₂.next lost (λ k g. (first_next k g, (second_next k g, (m k g, stays_lost k _))))
+
+              module _ {q₃ : KeySpan} (f₃ : q₃ ≡ child_span span 3) {x₃ : Pass} (w₃ : LeavesPassed keys features q₃ x₂.next x₃) where
+                third_next : (k : ℕ) → span.step / 5 ≡ 5 ^ k → x₃.next ≡ leaves_end keys k (span.key + 3 * (span.step / 5)) x₂.next
+                third_next k g = let m : LeavesPassed keys features (child_span span 3) x₂.next x₃ = rw f₃ at w₃ in m.next-is k g
+
+                pub lost_se : {q₄ : KeySpan} → q₄ ≡ child_span span 4 → LeavesLost keys q₄ x₃.next → LeavesLost keys span at
+                lost_se f₄ l =
+                    let m : LeavesLost keys (child_span span 4) x₃.next = rw f₄ at l in
+                    lost_four x₁.next x₂.next x₃.next (λ k g. (first_next k g, (second_next k g, (third_next k g, m k g))))
 
       -- four quadrants, one after the other
       module _ (high : span.step ≡ 1 → ⊥) {q₁ q₂ q₃ q₄ : KeySpan} (f₁ : q₁ ≡ child_span span 1) (f₂ : q₂ ≡ child_span span 2) (f₃ : q₃ ≡ child_span span 3)

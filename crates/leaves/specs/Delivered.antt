@@ -1,6 +1,6 @@
 -- What the passes over a delivery ask and answer, for the contracts of src/ alone: where the leaves of a block end, how a picture parts into them,
 -- and what is counted and written of a block. Rests on the frame of build.
-use Rattle.std.specs.Prelude.{ℕ, zero, suc, ◌+◌, ◌^◌, ◌≤◌, ◌<◌, ◌≡◌, true, cond, List, length, get_or, ltb, eqb}
+use Rattle.std.specs.Prelude.{Option, None, Some, ℕ, zero, suc, ◌+◌, ◌^◌, ◌≤◌, ◌<◌, ◌≡◌, true, cond, List, length, get_or, ltb, eqb}
 use Rattle.keys.specs.Key.{child_key, slot_limit, all_keys}
 use Rattle.definitions.specs.Picture.{Picture, one_feature}
 use Rattle.build.specs.BuildBlocks.{Tallied, Fitting, Written}
@@ -47,10 +47,7 @@ pub record LeavesAsked (keys features : List ℕ) (span : KeySpan) : Type 0 wher
   pub same : length features ≡ length keys
   pub few : (i : ℕ) → get_or features i 0 < slot_limit
 
--- a leaf is missing, and the leaf at a place is the block
-abbrev pub wrong_pass : (keys : List ℕ) → Pass
-wrong_pass keys = record { tally = record { bits = 0; count = 1 }; next = length keys + 1 }
-
+-- the leaf at a place is the block
 abbrev pub leaf_pass : (features : List ℕ) (at : ℕ) → Pass
 leaf_pass features at = record { tally = record { bits = 2 ^ get_or features at 0; count = 1 }; next = at + 1 }
 
@@ -59,6 +56,15 @@ pub record LeavesPassed (keys features : List ℕ) (span : KeySpan) (at : ℕ) (
   pub next-is : (k : ℕ) → span.step ≡ 5 ^ k → pass.next ≡ leaves_end keys k span.key at
   pub small : (k : ℕ) → span.step ≡ 5 ^ k → pass.tally.count ≤ 5 ^ k
   pub tally : (p : Picture) (k r c : ℕ) → span.step ≡ 5 ^ k → Parted p keys features k r c span.key at → Tallied p k r c pass.tally.bits pass.tally.count
+
+-- the leaves of a block are not there
+abbrev pub LeavesLost : (keys : List ℕ) (span : KeySpan) (at : ℕ) → Type 0
+LeavesLost keys span at = (k : ℕ) → span.step ≡ 5 ^ k → length keys + 1 ≡ leaves_end keys k span.key at
+
+-- they were looked for
+abbrev pub LeavesSought : (keys features : List ℕ) (span : KeySpan) (at : ℕ) → Option Pass → Type 0
+LeavesSought keys features span at None = LeavesLost keys span at
+LeavesSought keys features span at (Some pass) = LeavesPassed keys features span at pass
 
 -- the leaves of a block begin at a place, and there is room for the records below it
 pub record LayAsked (leafKeys leafFeatures : List ℕ) (span : KeySpan) (at place : ℕ) (keys bits : List ℕ) : Type 0 where

@@ -6,7 +6,7 @@ ghost use Rattle.definitions.specs.List.{list_of_picture};
 ghost use Rattle.definitions.specs.Read.{paired};
 ghost use Rattle.definitions.specs.Leaves.{are_leaves, picture_of_leaves};
 ghost use Rattle.definitions.specs.Refusal.{bad_settings};
-ghost use Rattle.leaves.specs.Delivered.{pixel_span, quad_span, wrong_pass, leaf_pass, LeavesAsked, LeavesPassed};
+ghost use Rattle.leaves.specs.Delivered.{pixel_span, quad_span, leaf_pass, LeavesAsked, LeavesSought};
 
 use crate::features;
 use build::count;
@@ -14,20 +14,11 @@ use build::count::Tally;
 use keys::span::{KeySpan, child};
 use keys::{power, span};
 
-// The bits of a block and how many records its list has, and the place after its leaves. Where its leaves are not there, the place is past the last.
+// The bits of a block and how many records its list has, and the place after its leaves.
 #[derive(Clone, Copy)]
 pub struct Pass {
     pub tally: Tally,
     pub next: usize,
-}
-
-// A leaf is missing, or another stands in its place.
-fn wrong(keys: &[u32]) -> Pass
-    ensures { result ≡ wrong_pass keys.now }
-{
-    let tally = Tally { bits: 0, count: 1 };
-    let next = keys.len() + 1;
-    Pass { tally, next }
 }
 
 // The next leaf is the block.
@@ -42,64 +33,64 @@ fn pass_leaf(features: &[u32], at: usize) -> Pass
 }
 
 // A pixel: the next leaf is the pixel.
-fn pass_pixel(keys: &[u32], features: &[u32], key: u32, at: usize) -> Pass
+fn pass_pixel(keys: &[u32], features: &[u32], key: u32, at: usize) -> Option<Pass>
     requires { LeavesAsked keys.now features.now (pixel_span key) }
-    ensures { LeavesPassed keys.now features.now (pixel_span key) at result }
+    ensures { LeavesSought keys.now features.now (pixel_span key) at result }
 {
     if keys.len() <= at {
-        return wrong(keys);
+        return None;
     }
     if keys[at] != key {
-        return wrong(keys);
+        return None;
     }
-    pass_leaf(features, at)
+    Some(pass_leaf(features, at))
 }
 
 // A block of 2 by 2 pixels, with no recursive call: most blocks of a delivery in parts are of this size.
-fn pass_quad(keys: &[u32], features: &[u32], key: u32, at: usize) -> Pass
+fn pass_quad(keys: &[u32], features: &[u32], key: u32, at: usize) -> Option<Pass>
     requires { LeavesAsked keys.now features.now (quad_span key) }
-    ensures { LeavesPassed keys.now features.now (quad_span key) at result }
+    ensures { LeavesSought keys.now features.now (quad_span key) at result }
 {
     if keys.len() <= at {
-        return wrong(keys);
+        return None;
     }
     if keys[at] == key {
-        return pass_leaf(features, at);
+        return Some(pass_leaf(features, at));
     }
-    let nw = pass_pixel(keys, features, key + 1, at);
-    let ne = pass_pixel(keys, features, key + 2, nw.next);
-    let sw = pass_pixel(keys, features, key + 3, ne.next);
-    let se = pass_pixel(keys, features, key + 4, sw.next);
+    let nw = pass_pixel(keys, features, key + 1, at)?;
+    let ne = pass_pixel(keys, features, key + 2, nw.next)?;
+    let sw = pass_pixel(keys, features, key + 3, ne.next)?;
+    let se = pass_pixel(keys, features, key + 4, sw.next)?;
     let tally = count::joined(nw.tally, ne.tally, sw.tally, se.tally);
     let next = se.next;
-    Pass { tally, next }
+    Some(Pass { tally, next })
 }
 
-// A block: the next leaf is the block itself, or its quadrants' leaves follow one after the other. Where a leaf is wrong, all that is asked
-// afterwards finds no leaf left, so each leaf is looked at no more often than it is deep.
-fn pass_block(keys: &[u32], features: &[u32], span: KeySpan, at: usize) -> Pass
+// A block: the next leaf is the block itself, or its quadrants' leaves follow one after the other. A leaf that is missing, or another in its place, ends
+// the pass.
+fn pass_block(keys: &[u32], features: &[u32], span: KeySpan, at: usize) -> Option<Pass>
     requires { LeavesAsked keys.now features.now span }
-    ensures { LeavesPassed keys.now features.now span at result }
+    ensures { LeavesSought keys.now features.now span at result }
 {
     if span.step == 5 {
         return pass_quad(keys, features, span.key, at);
     }
     if keys.len() <= at {
-        return wrong(keys);
+        return None;
     }
     if keys[at] == span.key {
-        return pass_leaf(features, at);
+        return Some(pass_leaf(features, at));
     }
     if span.step == 1 {
-        return wrong(keys);
+        return None;
     }
-    let nw = pass_block(keys, features, child(span, 1), at);
-    let ne = pass_block(keys, features, child(span, 2), nw.next);
-    let sw = pass_block(keys, features, child(span, 3), ne.next);
-    let se = pass_block(keys, features, child(span, 4), sw.next);
+    let nw = pass_block(keys, features, child(span, 1), at)?;
+    let ne = pass_block(keys, features, child(span, 2), nw.next)?;
+    let sw = pass_block(keys, features, child(span, 3), ne.next)?;
+    let se = pass_block(keys, features, child(span, 4), sw.next)?;
     let tally = count::joined(nw.tally, ne.tally, sw.tally, se.tally);
     let next = se.next;
-    Pass { tally, next }
+    Some(Pass { tally, next })
 }
 
 // How many records the list of a delivery has, where the leaves are one.
@@ -112,7 +103,7 @@ pub fn records_of(m: u32, s: u32, keys: &[u32], features: &[u32]) -> Option<usiz
     if features::has_bad_feature(s, features) {
         return None;
     }
-    let whole = pass_block(keys, features, span::root(m), 0);
+    let whole = pass_block(keys, features, span::root(m), 0)?;
     if whole.next == keys.len() {
         return Some(whole.tally.count);
     }

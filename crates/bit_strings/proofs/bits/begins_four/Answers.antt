@@ -4,9 +4,6 @@ use Rattle.definitions.specs.BitStrings.{bits_in}
 use Rattle.bit_strings.proofs.NextBit.{begins_turn, begins_stop, begins_end, begins_start, no_digit, differ, agree}
 use Rattle.bit_strings.proofs.bits.begins_four.Goals as goal
 
-pub loop-i-init : goal.loop-i-init
-loop-i-init c = begins_start (bits_in c.args.bytes.now) c.args.at _
-
 pub returns-in_default : goal.returns-in_default
 returns-in_default c = begins_stop _ _ c.loop-i.i _ _ (omega arith) c.loop-i.invariant (λ e. no_digit _ (c.in_default.ensures ∙ e))
 

@@ -14,26 +14,8 @@ returns-then-bytes-k c = let s = c.args in sym (spare_none _ (none_there s.bytes
 pub returns-then-at-eq0 : goal.returns-then-at-eq0
 returns-then-at-eq0 c = let s = c.args in sym (spare_byte s.bytes.now s.at (omega arith) c.if-at-eq0.true)
 
-pub overflow_add-k : goal.overflow_add-k
-overflow_add-k c = search rules
-
 pub returns-then-k-bytes : goal.returns-then-k-bytes
 returns-then-k-bytes c = let s = c.args in sym (spare_more s.bytes.now s.at (omega arith) c.if-k-bytes.true)
-
-pub bounds-bytes-k : goal.bounds-bytes-k
-bounds-bytes-k c = search rules
-
-pub overflow_sub-at : goal.overflow_sub-at
-overflow_sub-at c = search rules
-
-pub overflow_cast-at : goal.overflow_cast-at
-overflow_cast-at c = search rules
-
-pub power_of_two-requires : goal.power_of_two-requires
-power_of_two-requires c = search rules
-
-pub nonzero_rem-result : goal.nonzero_rem-result
-nonzero_rem-result c = omega (arith, power_positive _ _ c.power_of_two.ensures)
 
 pub returns : goal.returns
 returns c =

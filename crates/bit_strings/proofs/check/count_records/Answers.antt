@@ -7,18 +7,9 @@ use Rattle.bit_strings.proofs.check.count_records.Goals as goal
 pub loop-key-init : goal.loop-key-init
 loop-key-init c = counting_start _ _ _
 
-pub pass-requires : goal.pass-requires
-pass-requires c = (c.requires, omega (arith, c.power_of_five-end.ensures), c.loop-key.invariant.below, c.loop-key.invariant.fewer)
-
 pub returns-in_err-passed : goal.returns-in_err-passed
 returns-in_err-passed c =
     rw c.from_residual.ensures (counting_stuck _ _ _ _ _ _ c.loop-key.invariant (omega (arith, c.power_of_five-end.ensures)) c.in_err-passed.ensures)
-
-pub overflow_add-j : goal.overflow_add-j
-overflow_add-j c = let d = digit_most c.in_ok-passed.passed.leaf in let e = c.from-j.ensures ∙ byte_digit c.in_ok-passed.passed.leaf in omega (arith, c.loop-key.invariant.below, c.loop-key.invariant.fewer)
-
-pub overflow_add-i : goal.overflow_add-i
-overflow_add-i c = omega (arith, c.loop-key.invariant.below)
 
 pub loop-key-smaller : goal.loop-key-smaller
 loop-key-smaller c =

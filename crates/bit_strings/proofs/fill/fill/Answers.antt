@@ -19,8 +19,3 @@ loop-i-preserved c =
     let digit = sym (ap bit_told c.unwrap-leaf.ensures) ∙ c.bit_at.ensures in
     rw (c.from-j.ensures, byte_digit c.unwrap-leaf.result)
     (filling_turn c.loop-i.invariant c.requires (omega arith) _ _ _ digit c.value_at.ensures c.key_after-key.ensures)
-
-pub returns : goal.returns
-returns c =
-    let r = filling_end c.loop-i.invariant c.requires (omega arith) in
-    record { keys_after = r.0; bits_after = r.1 }

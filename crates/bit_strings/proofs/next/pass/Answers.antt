@@ -30,9 +30,6 @@ returns-then-step-eq1 c =
     let zero = sym c.in_ok-node.ensures ∙ ap (λ b. cond b 1 0) c.if-node.false in
     pass_deep _ _ _ c.keys_in-step.ensures _ _ (λ e. omega arith) (λ e. omega arith) c.if-step-eq1.true
 
-pub overflow_add-i : goal.overflow_add-i
-overflow_add-i c = let h = five_le 10 c.requires.0 in omega arith
-
 pub equal_siblings-requires : goal.equal_siblings-requires
 equal_siblings-requires c = let h = five_le 10 c.requires.0 in (omega arith, omega arith)
 

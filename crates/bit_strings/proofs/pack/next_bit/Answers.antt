@@ -3,9 +3,6 @@ use Rattle.std.proofs.Common.{refl, arith}
 use Rattle.bit_strings.proofs.Packing.{pick_skip, pick_bit, pick_end}
 use Rattle.bit_strings.proofs.pack.next_bit.Goals as goal
 
-pub loop-place-init : goal.loop-place-init
-loop-place-init c = refl
-
 pub returns-in-Some : goal.returns-in-Some
 returns-in-Some c = pick_bit _ _ _ c.loop-place.place c.loop-place.invariant _ (omega arith) c.in-Some.ensures
 

@@ -3,12 +3,6 @@ use Rattle.std.proofs.Common.{arith}
 use Rattle.bit_strings.proofs.Bitwise.{written_start, written_turn, written_end}
 use Rattle.bit_strings.proofs.pack.pack.Goals as goal
 
-pub loop-k-init : goal.loop-k-init
-loop-k-init c = written_start _ _ _ _
-
-pub next_byte-next-requires : goal.next_byte-next-requires
-next_byte-next-requires c = c.loop-k.invariant.within
-
 pub loop-k-preserved : goal.loop-k-preserved
 loop-k-preserved c = written_turn c.loop-k.invariant _ (omega arith) c.requires c.next_byte-next.ensures
 

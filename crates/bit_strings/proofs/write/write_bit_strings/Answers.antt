@@ -20,12 +20,6 @@ returns-then-nodes-node_bytes c =
     let h = too_short _ _ _ _ _ _ _ c.in-Ok.ensures.told c.if-nodes-node_bytes.true in
     record { value = rw c.into-then-nodes-node_bytes.ensures h.0; nodes_after = h.1.0; leaves_after = h.1.1 }
 
-pub pack-requires : goal.pack-requires
-pack-requires c = ltb-false _ _ (neither_left _ _ c.if-nodes-node_bytes.false)
-
-pub pack-requires-2 : goal.pack-requires-2
-pack-requires-2 c = ltb-false _ _ (neither_right (ltb (length c.args.nodes.now) ((c.args.n + 7) / 8)) _ c.if-nodes-node_bytes.false)
-
 pub returns : goal.returns
 returns c =
     let same = c.in-Ok.ensures.list.bits_taken in

@@ -1,4 +1,4 @@
--- `lay::lay_below` meets its contract: four pixels have their own function, the next leaf is the block, or the four quadrants one after the other and then their own records. The step
+-- `lay::lay_below`: four pixels have their own function, the next leaf is the block, or the four quadrants one after the other and then their own records. The step
 -- falls at each call.
 use Prim.Native.Nat.{ℕ, ◌+◌, ◌^◌, ◌≤◌, ◌<◌}
 use mathlib.Core.List.{List}
@@ -26,46 +26,46 @@ returns-then-leaf_keys-at t c =
 
 pub lay_below-nw-requires : goal.lay_below-nw-requires
 lay_below-nw-requires t c =
-    let f = c.child.ensures in
+    let f = c.child-nw_span.ensures in
     (lower c.requires t c.decreases 1 f, ready_nw c.requires c.if-leaf_keys-at.false f)
 
 pub lay_below-ne-requires : goal.lay_below-ne-requires
 lay_below-ne-requires t c =
-    let f = c.child-2.ensures in
-    (lower c.requires t c.decreases 2 f, ready_ne c.requires c.if-leaf_keys-at.false c.child.ensures c.lay_below-nw.ensures f)
+    let f = c.child-ne_span.ensures in
+    (lower c.requires t c.decreases 2 f, ready_ne c.requires c.if-leaf_keys-at.false c.child-nw_span.ensures c.lay_below-nw.ensures f)
 
 pub lay_below-sw-requires : goal.lay_below-sw-requires
 lay_below-sw-requires t c =
-    let f = c.child-3.ensures in (
+    let f = c.child-sw_span.ensures in (
       lower c.requires t c.decreases 3 f,
       ready_sw c.requires c.if-leaf_keys-at.false
-          c.child.ensures c.lay_below-nw.ensures
-          c.child-2.ensures c.lay_below-ne.ensures f,
+          c.child-nw_span.ensures c.lay_below-nw.ensures
+          c.child-ne_span.ensures c.lay_below-ne.ensures f,
     )
 
 pub lay_below-se-requires : goal.lay_below-se-requires
 lay_below-se-requires t c =
-    let f = c.child-4.ensures in (
+    let f = c.child-se_span.ensures in (
       lower c.requires t c.decreases 4 f,
       ready_se c.requires c.if-leaf_keys-at.false
-          c.child.ensures c.lay_below-nw.ensures
-          c.child-2.ensures c.lay_below-ne.ensures
-          c.child-3.ensures c.lay_below-sw.ensures f,
+          c.child-nw_span.ensures c.lay_below-nw.ensures
+          c.child-ne_span.ensures c.lay_below-ne.ensures
+          c.child-sw_span.ensures c.lay_below-sw.ensures f,
     )
 
 pub write_four-below-requires : goal.write_four-below-requires
 write_four-below-requires t c =
     ready_four c.requires c.if-leaf_keys-at.false
-    c.child.ensures c.lay_below-nw.ensures
-    c.child-2.ensures c.lay_below-ne.ensures
-    c.child-3.ensures c.lay_below-sw.ensures
-    c.child-4.ensures c.lay_below-se.ensures
+    c.child-nw_span.ensures c.lay_below-nw.ensures
+    c.child-ne_span.ensures c.lay_below-ne.ensures
+    c.child-sw_span.ensures c.lay_below-sw.ensures
+    c.child-se_span.ensures c.lay_below-se.ensures
 
 pub returns : goal.returns
 returns t c =
     laid_four c.requires c.if-leaf_keys-at.false
-    c.child.ensures c.lay_below-nw.ensures
-    c.child-2.ensures c.lay_below-ne.ensures
-    c.child-3.ensures c.lay_below-sw.ensures
-    c.child-4.ensures c.lay_below-se.ensures
+    c.child-nw_span.ensures c.lay_below-nw.ensures
+    c.child-ne_span.ensures c.lay_below-ne.ensures
+    c.child-sw_span.ensures c.lay_below-sw.ensures
+    c.child-se_span.ensures c.lay_below-se.ensures
     c.write_four-below.ensures
