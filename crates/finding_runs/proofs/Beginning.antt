@@ -1,7 +1,10 @@
 -- How a run begins: the refusals that come first, and what the run stands on where none of 21, 1 and 4 is given. Rests on Settings.
 use Prim.Native.Nat.{ℕ, min}
-use mathlib.Core.Path.{◌≡◌, refl, sym, ap}
-use mathlib.Core.Bool.{true, false, cond, not}
+use mathlib.Core.Path.{◌≡◌, refl, sym, ap, ◌∙◌}
+use mathlib.Core.Bool.{Bool, true, false, cond, not, true≢false}
+use Rattle.std.specs.Prelude.{Option, Some, None, is_some}
+use Rattle.std.specs.Option.{unwrap_or}
+use Rattle.offices.specs.declared.own.OwnRows.{OwnRows}
 use mathlib.Core.List.{List, [], ◌∷◌}
 use native.Mathlib.Omega.{arith}
 use lib.ListN.{length}
@@ -13,10 +16,7 @@ use Rattle.definitions.specs.Offices.{bad_office}
 use Rattle.definitions.specs.Rules.{Finding, waivers_of}
 use Rattle.list.specs.First.{first_refusal}
 use Rattle.list.proofs.FirstRefusal.{first_settings, first_no_list, first_good}
-use Rattle.offices.specs.Own.{no_rows, own_of}
-use Rattle.offices.specs.declared.own.Own.{Own}
-use Rattle.finding_runs.specs.declared.state.RunState.{RunState}
-use Rattle.finding_runs.specs.Run.{waivers_good, waivers_below, progress_of, bounding, begin_refusal, begin_of, own_at, RulesReady}
+use Rattle.finding_runs.specs.Run.{rows_told, RunNumbers, OfficeRows, no_rows, own_told, waivers_good, waivers_below, progress_of, bounding, begin_refusal, begin_of, own_at, RulesReady}
 use Rattle.finding_runs.proofs.Settings.{good_level, good_slots}
 
 -- no waiver has an id below 0
@@ -25,8 +25,16 @@ unfolding waivers_below
 below_zero [] = refl
 below_zero (w ∷ ws) = let ih = below_zero ws in rw (le-ltb w.id 0 (omega arith)) (omega arith)
 
+-- the rows as the code keeps them
+told_parts : (o : Option OwnRows) (rows : OwnRows) (faulty : Bool) → rows ≡ unwrap_or o (record { offset = 0; count = 0 }) → is_some o ≡ not faulty
+    → (faulty ≡ not (rows_told o).good) × (rows.offset ≡ (rows_told o).offset) × (rows.count ≡ (rows_told o).count)
+told_parts None rows true e f = (refl, ap (λ r. r.offset) e, ap (λ r. r.count) e)
+told_parts None rows false e f = absurd (true≢false (sym f))
+told_parts (Some x) rows false e f = (refl, ap (λ r. r.offset) e, ap (λ r. r.count) e)
+told_parts (Some x) rows true e f = absurd (true≢false f)
+
 -- the rows that were found are these waivers, and good ones where the table is
-pub record RunFits (m : ℕ) (own : Own) (waiver_ids waiver_keys : List ℕ) : Type 0 where
+pub record RunFits (m : ℕ) (own : OfficeRows) (waiver_ids waiver_keys : List ℕ) : Type 0 where
   pub size : own.count ≡ room waiver_ids waiver_keys
   pub good : own.good ≡ true → waivers_good m (waivers_of waiver_ids waiver_keys) ≡ true
 
@@ -71,25 +79,30 @@ module _ (office m s : ℕ) (keys bits : List ℕ) (n : ℕ) where
       (λ good. decide (is_list m s keys bits n) (λ is. let z = begin_good known good is in omega arith) (λ no_list. let z = begin_no_list known good no_list in omega arith)))
 
   -- the office's rows are looked for only where nothing is refused
-  pub own_looked : (offices ids waived : List ℕ) (rows : ℕ) → begin_refusal office m s keys bits n ≡ 0 → own_of m office offices ids waived rows ≡ own_at m s keys bits n office offices ids waived rows
+  pub own_looked : (offices ids waived : List ℕ) (rows : ℕ) → begin_refusal office m s keys bits n ≡ 0 → own_told m office offices ids waived rows ≡ own_at m s keys bits n office offices ids waived rows
   unfolding own_at
-  own_looked offices ids waived rows e = sym (ap (λ b. cond b (own_of m office offices ids waived rows) (no_rows true)) (eq-eqb (begin_refusal office m s keys bits n) 0 e))
+  own_looked offices ids waived rows e = sym (ap (λ b. cond b (own_told m office offices ids waived rows) (no_rows true)) (eq-eqb (begin_refusal office m s keys bits n) 0 e))
 
   pub own_passed : (offices ids waived : List ℕ) (rows : ℕ) → (begin_refusal office m s keys bits n ≡ 0 → ⊥) → no_rows true ≡ own_at m s keys bits n office offices ids waived rows
   unfolding own_at
-  own_passed offices ids waived rows h = sym (ap (λ b. cond b (own_of m office offices ids waived rows) (no_rows true)) (ne_eqb (begin_refusal office m s keys bits n) 0 h))
+  own_passed offices ids waived rows h = sym (ap (λ b. cond b (own_told m office offices ids waived rows) (no_rows true)) (ne_eqb (begin_refusal office m s keys bits n) 0 h))
 
-  module _ (own : Own) (room_ids room_keys : ℕ) where
-    abbrev start : RunState
+  module _ (own : OfficeRows) (room_ids room_keys : ℕ) where
+    abbrev start : RunNumbers
     start = begin_of m s keys bits n office own room_ids room_keys
 
     -- field by field
-    pub begun : (refusal room' : ℕ) (o : Own) → refusal ≡ begin_refusal office m s keys bits n → o ≡ own → room' ≡ min room_ids room_keys
-        → record { m = m; s = s; n = n; mode = 0; refusal = refusal; next = 0; faulty = not o.good; offset = o.offset; waivers = o.count; passed = 0; limit = 0; room = room'; live = 0; hidden = 0 }
+    pub begun : (refusal room' : ℕ) (o : Option OwnRows) (rows : OwnRows) (faulty : Bool) → refusal ≡ begin_refusal office m s keys bits n → rows_told o ≡ own
+        → rows ≡ unwrap_or o (record { offset = 0; count = 0 }) → is_some o ≡ not faulty → room' ≡ min room_ids room_keys
+        → record { m = m; s = s; n = n; mode = 0; refusal = refusal; next = 0; faulty = faulty; offset = rows.offset; waivers = rows.count; passed = 0; limit = 0; room = room'; live = 0; hidden = 0 }
         ≡ bounding 0 start
     unfolding begin_of
-    begun refusal room' o e f g =
-        λ i. record { m = m; s = s; n = n; mode = 0; refusal = e i; next = 0; faulty = not (f i).good; offset = (f i).offset; waivers = (f i).count; passed = 0; limit = 0; room = g i; live = 0; hidden = 0 }
+    begun refusal room' o rows faulty e f h k g =
+        let t = told_parts o rows faulty h k in
+        let bad = t.0 ∙ ap (λ r. not r.good) f in
+        let from = t.1 ∙ ap (λ r. r.offset) f in
+        let many = t.2 ∙ ap (λ r. r.count) f in
+        λ i. record { m = m; s = s; n = n; mode = 0; refusal = e i; next = 0; faulty = bad i; offset = from i; waivers = many i; passed = 0; limit = 0; room = g i; live = 0; hidden = 0 }
 
     -- the first run may begin
     pub begin_ready : (waiver_ids waiver_keys ids found_keys : List ℕ) → RunFits m own waiver_ids waiver_keys → room_ids ≡ length ids → room_keys ≡ length found_keys

@@ -31,3 +31,4 @@ pub mod OfficeAnswer
 pub mod Answer
 -- the loop over the lent rules
 pub mod RunTurns
+pub mod Told

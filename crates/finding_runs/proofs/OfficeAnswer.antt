@@ -17,10 +17,8 @@ use Rattle.definitions.specs.Offices.{Waiver, bad_office, table_of, rows_of, row
 use Rattle.definitions.specs.Calls.Findings.{refusal_with, found_with, ids_with, found_keys_with}
 use Rattle.definitions.specs.declared.Rule.{Rule}
 use Rattle.laws.proofs.Shares.{share_own, share_other, share_none}
-use Rattle.offices.specs.Own.{no_rows, own_of}
-use Rattle.offices.specs.declared.own.Own.{Own}
 use Rattle.offices.proofs.OwnRows.{office_part, own_part, own_within, own_ascend, own_no_table, own_bad_key, own_found, rows_hold, rows_sound}
-use Rattle.finding_runs.specs.Run.{keys_valid, waivers_good, begin_refusal, own_at}
+use Rattle.finding_runs.specs.Run.{rows_told, OfficeRows, no_rows, own_told, keys_valid, waivers_good, begin_refusal, own_at}
 use Rattle.finding_runs.proofs.GoodRules.{good_from}
 use Rattle.finding_runs.proofs.GoodWaivers.{good_none}
 use Rattle.finding_runs.proofs.Beginning.{RunFits, zero_office, zero_settings, zero_list, own_looked, own_passed, begin_good}
@@ -53,7 +51,7 @@ module _ (m office : ℕ) (offices ids waived : List ℕ) (rows : ℕ) where
   t = table_of offices ids waived rows
 
   -- what the table gives, where it is good with its keys
-  pub record Rows (own : Own) : Type 0 where
+  pub record Rows (own : OfficeRows) : Type 0 where
     pub in_ids : own.offset + own.count ≤ length ids
     pub in_waived : own.offset + own.count ≤ length waived
     pub good : own.good ≡ true → waivers_good m (waivers_of (office_part own.offset own.count ids) (office_part own.offset own.count waived)) ≡ true
@@ -67,34 +65,34 @@ module _ (m office : ℕ) (offices ids waived : List ℕ) (rows : ℕ) where
       }
 
   module _ (known : office ≤ 1) (is : is_table offices ids waived rows ≡ true) (valid : row_keys_valid m t ≡ true) where
-    pub parts_are : (own : Own) → own ≡ own_of m office offices ids waived rows
+    pub parts_are : (own : OfficeRows) → own ≡ own_told m office offices ids waived rows
         → waivers_of (office_part own.offset own.count ids) (office_part own.offset own.count waived) ≡ rows_of office t
-    parts_are own e = rw (e ∙ sym (own_found m office offices ids waived rows is valid)) (own_part offices ids waived rows is office known)
+    parts_are own e = rw (e ∙ sym (ap rows_told (own_found m office offices ids waived rows is valid))) (own_part offices ids waived rows is office known)
 
     rows_good : waivers_good m (rows_of office t) ≡ true
     unfolding waivers_good
     rows_good =
         and_both (findings_ascend (rows_of office t)) (keys_valid m (rows_of office t)) (own_ascend office t (rows_sound offices ids waived rows is).ascend) (own_valid m office t valid)
 
-    found_rows : Rows (own_of m office offices ids waived rows)
+    found_rows : Rows (own_told m office offices ids waived rows)
     found_rows =
         let within = own_within offices ids waived rows is office known in
         let h = rows_hold offices ids waived rows is in
-        subst Rows (own_found m office offices ids waived rows is valid)
+        subst Rows (ap rows_told (own_found m office offices ids waived rows is valid))
         (record {
           in_ids = omega (arith, h.in_ids);
           in_waived = omega (arith, h.in_waived);
           good = λ e. ap (waivers_good m) (own_part offices ids waived rows is office known) ∙ rows_good;
         })
 
-  of_rows : office ≤ 1 → Rows (own_of m office offices ids waived rows)
+  of_rows : office ≤ 1 → Rows (own_told m office offices ids waived rows)
   of_rows known =
       decide (is_table offices ids waived rows)
-      (λ is. decide (row_keys_valid m t) (λ valid. found_rows known is valid) (λ bad. subst Rows (own_bad_key m office offices ids waived rows is bad) (no-rows false)))
-      (λ no. subst Rows (own_no_table m office offices ids waived rows no) (no-rows false))
+      (λ is. decide (row_keys_valid m t) (λ valid. found_rows known is valid) (λ bad. subst Rows (ap rows_told (own_bad_key m office offices ids waived rows is bad)) (no-rows false)))
+      (λ no. subst Rows (ap rows_told (own_no_table m office offices ids waived rows no)) (no-rows false))
 
 module _ (m s : ℕ) (keys bits : List ℕ) (n office : ℕ) (offices ids waived : List ℕ) (rows : ℕ) where
-  abbrev own : Own
+  abbrev own : OfficeRows
   own = own_at m s keys bits n office offices ids waived rows
 
   abbrev early : ℕ
@@ -163,10 +161,10 @@ module _ (m s : ℕ) (keys bits : List ℕ) (n office : ℕ) (rules : List Rule)
       (refusal_13 m s keys bits n office true rules ws' found_ids found_keys known settings list bad) (λ e. omega arith) (λ e. omega arith))
 
   module _ (offices ids waived : List ℕ) (rows : ℕ) where
-    abbrev rows_found : Own
+    abbrev rows_found : OfficeRows
     rows_found = own_at m s keys bits n office offices ids waived rows
 
-    abbrev pub parts : Own → List Finding
+    abbrev pub parts : OfficeRows → List Finding
     parts o = waivers_of (office_part o.offset o.count ids) (office_part o.offset o.count waived)
 
     abbrev table : List Waiver
@@ -185,15 +183,15 @@ module _ (m s : ℕ) (keys bits : List ℕ) (n office : ℕ) (rules : List Rule)
         decide (is_table offices ids waived rows)
         (λ is. decide (row_keys_valid m table)
         (λ valid.
-        let a : not rows_found.good ≡ false = ap (λ o. not o.good) (sym looked ∙ sym (own_found m office offices ids waived rows is valid)) in
+        let a : not rows_found.good ≡ false = ap (λ o. not o.good) (sym looked ∙ sym (ap rows_told (own_found m office offices ids waived rows is valid))) in
         let b : wrong_table ≡ false = ap₂ (λ x y. not x || not y) is valid in
         rw (a, b, parts_are m office offices ids waived rows known is valid rows_found (sym looked)) (refl, refl, refl))
         (λ bad.
-        let a : not rows_found.good ≡ true = ap (λ o. not o.good) (sym looked ∙ sym (own_bad_key m office offices ids waived rows is bad)) in
+        let a : not rows_found.good ≡ true = ap (λ o. not o.good) (sym looked ∙ sym (ap rows_told (own_bad_key m office offices ids waived rows is bad))) in
         let b : wrong_table ≡ true = or_right (not (is_table offices ids waived rows)) (not (row_keys_valid m table)) (ap not bad) in
         rw (a, b) (wrong_alike (parts rows_found) (rows_of office table) zero)))
         (λ no.
-        let a : not rows_found.good ≡ true = ap (λ o. not o.good) (sym looked ∙ sym (own_no_table m office offices ids waived rows no)) in
+        let a : not rows_found.good ≡ true = ap (λ o. not o.good) (sym looked ∙ sym (ap rows_told (own_no_table m office offices ids waived rows no))) in
         let b : wrong_table ≡ true = or_left (not (is_table offices ids waived rows)) (not (row_keys_valid m table)) (ap not no) in
         rw (a, b) (wrong_alike (parts rows_found) (rows_of office table) zero)))
         (λ not-zero. early_alike (not rows_found.good) wrong_table (parts rows_found) (rows_of office table) not-zero)

@@ -12,13 +12,15 @@ use Rattle.definitions.specs.Window.{is_window, select_in}
 use Rattle.definitions.specs.Rules.{Finding, finding_of, window_of_rule, findings_of, waivers_of, live_of, hidden_count, findings_ascend}
 use Rattle.definitions.specs.declared.Rule.{Rule}
 use Rattle.definitions.specs.Covered.{waived_keys}
-use Rattle.list.specs.Own.{OwnList}
+use Rattle.list.specs.Own.{OwnList, shown_by}
+use Rattle.list.specs.Taken.{Taken, picture_listed}
+use Rattle.list.specs.declared.accepted_list.Accepted.{Accepted}
+use Rattle.list.proofs.Taken.{taken_picture}
 use Rattle.list.proofs.Own.{own_list}
 use Rattle.walk.specs.Given.{written}
-use Rattle.finding_runs.specs.declared.state.RunState.{RunState}
 use Rattle.finding.specs.declared.Sifting.{Sifting}
 use Rattle.finding.specs.Sift.{not_waived, SiftReady, Sifted}
-use Rattle.finding_runs.specs.Run.{Progress, progress_of, waivers_below, counting, picture, findings_at, gathered, served}
+use Rattle.finding_runs.specs.Run.{RunNumbers, Progress, progress_of, waivers_below, counting, picture, findings_at, gathered, served}
 use Rattle.finding_runs.specs.Step.{OwnEnd, Gatherable, widened}
 use Rattle.finding.proofs.Settling.{none_passed}
 use Rattle.finding_runs.proofs.GoodWaivers.{good_in_order}
@@ -41,7 +43,7 @@ module _ (keys bits waiver_ids waiver_keys : List ℕ) (rule : Rule) (p : Progre
   abbrev ws : List Finding
   ws = waivers_of waiver_ids waiver_keys
 
-  abbrev st : RunState
+  abbrev st : RunNumbers
   st = p.state
 
   asc : findings_ascend ws ≡ true
@@ -109,7 +111,7 @@ module _ (keys bits waiver_ids waiver_keys : List ℕ) (rule : Rule) (p : Progre
     counts_small fits = let low = next_low keys bits waiver_ids waiver_keys rule p g.may in omega (arith, g.fine.small)
 
     -- where the run only bounds
-    pub widened_served : st.mode ≡ 0 → {r : Sifting} {after : RunState} → r ≡ widened rule at → after ≡ counting (rule.id + 1) end r.live r.hidden st
+    pub widened_served : st.mode ≡ 0 → {r : Sifting} {after : RunNumbers} → r ≡ widened rule at → after ≡ counting (rule.id + 1) end r.live r.hidden st
         → progress_of after p.ids p.keys ≡ served keys bits waiver_ids waiver_keys rule p
     widened_served bounds {r} e f =
         ap (λ a. progress_of a p.ids p.keys) f
@@ -157,7 +159,7 @@ module _ (keys bits waiver_ids waiver_keys : List ℕ) (rule : Rule) (p : Progre
           s.counted.wrote_keys
           ∙ ap (written st.limit p.keys st.live) (keys_of rule.id live ∙ ap (map (λ x. x.key)) live_is)
 
-      sifted_gathered : {after : RunState} → after ≡ counting (rule.id + 1) end r.live r.hidden st
+      sifted_gathered : {after : RunNumbers} → after ≡ counting (rule.id + 1) end r.live r.hidden st
           → progress_of after ids' keys' ≡ gathered keys bits waiver_ids waiver_keys rule p
       sifted_gathered e =
           ap (λ a. progress_of a ids' keys') e
@@ -166,6 +168,22 @@ module _ (keys bits waiver_ids waiver_keys : List ℕ) (rule : Rule) (p : Progre
           ∙ ap₂ (λ a b. progress_of (gathered keys bits waiver_ids waiver_keys rule p).state a b) wrote-ids wrote-keys
 
       -- where it walks
-      pub sifted_served : (st.mode ≡ 0 → ⊥) → {after : RunState} → after ≡ counting (rule.id + 1) end r.live r.hidden st
+      pub sifted_served : (st.mode ≡ 0 → ⊥) → {after : RunNumbers} → after ≡ counting (rule.id + 1) end r.live r.hidden st
           → progress_of after ids' keys' ≡ served keys bits waiver_ids waiver_keys rule p
       sifted_served walks e = sifted_gathered e ∙ sym (served_gathers keys bits waiver_ids waiver_keys rule p walks)
+
+-- what was sifted of the list that was taken is what was sifted of the records
+module _ (m : ℕ) (keys bits : List ℕ) (n : ℕ) (list : Accepted) (t : Taken m keys bits n list) where
+  pub listed_ready : (limit : ℕ) (waived : List ℕ) (at : Sifting) (ids found_keys : List ℕ) (most x : ℕ) → SiftReady m limit waived at ids found_keys most x
+      → SiftReady list.m limit waived at ids found_keys most x
+  listed_ready limit waived at ids found_keys most x = subst (λ k. SiftReady k limit waived at ids found_keys most x) (sym t.map)
+
+  pub listed_window : (rule : Rule) → is_window m (window_of_rule rule) ≡ true → is_window list.m (window_of_rule rule) ≡ true
+  listed_window rule = subst (λ k. is_window k (window_of_rule rule) ≡ true) (sym t.map)
+
+  pub listed_sifted : (limit : ℕ) (waived : List ℕ) (rule : Rule) (at r : Sifting) (ids ids' found_keys found_keys' : List ℕ)
+      → Sifted list.m limit rule.id waived (select_in list.m (picture_listed list) (window_of_rule rule) rule.feature) at r ids ids' found_keys found_keys' (5 ^ list.m)
+      → Sifted m limit rule.id waived (select_in m (shown_by m keys bits n) (window_of_rule rule) rule.feature) at r ids ids' found_keys found_keys' (5 ^ m)
+  listed_sifted limit waived rule at r ids ids' found_keys found_keys' s =
+      subst (λ p. Sifted m limit rule.id waived (select_in m p (window_of_rule rule) rule.feature) at r ids ids' found_keys found_keys' (5 ^ m)) (taken_picture t)
+      (subst (λ k. Sifted k limit rule.id waived (select_in k (picture_listed list) (window_of_rule rule) rule.feature) at r ids ids' found_keys found_keys' (5 ^ k)) t.map s)

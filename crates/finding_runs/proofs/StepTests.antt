@@ -11,8 +11,7 @@ use Rattle.keys.proofs.Cases.{split}
 use Rattle.definitions.specs.Window.{is_window}
 use Rattle.definitions.specs.Rules.{window_of_rule, is_rule}
 use Rattle.definitions.specs.declared.Rule.{Rule}
-use Rattle.finding_runs.specs.declared.state.RunState.{RunState}
-use Rattle.finding_runs.specs.Run.{may_come}
+use Rattle.finding_runs.specs.Run.{RunNumbers, may_come}
 use Rattle.finding_runs.specs.Step.{OwnFrom, OwnEnd}
 
 -- three tests, in the order of the code
@@ -28,7 +27,7 @@ others_hold : (a b c : Bool) → a ≡ true → c ≡ true → b ≡ a && (b && 
 others_hold a true c e f = rw (e, f)
 others_hold a false c e f = rw e
 
-module _ (rule : Rule) (st : RunState) where
+module _ (rule : Rule) (st : RunNumbers) where
   pub may_low : rule.id < st.next → false ≡ may_come rule st
   unfolding is_rule
   may_low h = first_fails (leb st.next rule.id) (is_window st.m (window_of_rule rule)) (ltb rule.feature st.s) (lt-leb _ _ h)
@@ -56,6 +55,13 @@ module _ (ids : List ℕ) (from count id : ℕ) where
   -- none yet
   pub own_none : from ≤ count → OwnFrom ids from count id from
   own_none h = record { start = omega arith; within = h; own = λ i after before. absurd (omega arith) }
+
+  -- all are passed
+  pub own_all : (place : ℕ) → OwnFrom ids from count id place → count ≤ place → OwnEnd ids from count id count
+  own_all place o over =
+      let all = o.within in
+      let same : place ≡ count = omega arith in
+      record { run = subst (λ j. OwnFrom ids from count id j) same o; past = λ inside. absurd (omega arith) }
 
   -- the end is one place alone
   not_before : (place place' : ℕ) → OwnEnd ids from count id place → OwnEnd ids from count id place' → place < place' → ⊥

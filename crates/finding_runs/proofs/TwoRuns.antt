@@ -15,11 +15,9 @@ use Rattle.definitions.specs.Offices.{bad_office}
 use Rattle.definitions.specs.Refusal.{bad_settings}
 use Rattle.definitions.specs.Calls.Findings.{live_in, hidden_in, refusal_with, found_with, ids_with, found_keys_with}
 use Rattle.definitions.specs.declared.Rule.{Rule}
-use Rattle.offices.specs.declared.own.Own.{Own}
 use Rattle.walk.specs.Given.{written}
 use Rattle.walk.proofs.Written.{written_over}
-use Rattle.finding_runs.specs.declared.state.RunState.{RunState}
-use Rattle.finding_runs.specs.Run.{waivers_below, waivers_good, Progress, progress_of, restarting, rules_run, begin_refusal, begin_of, after_run, answer_of}
+use Rattle.finding_runs.specs.Run.{RunNumbers, OfficeRows, waivers_below, waivers_good, Progress, progress_of, restarting, rules_run, begin_refusal, begin_of, after_run, answer_of}
 use Rattle.finding_runs.proofs.WaiverPlaces.{waivers-length}
 use Rattle.finding_runs.proofs.NextCases.{next_stopped, next_faulty, next_left, next_full, next_writes, answer_done, answer_full, answer_refused}
 use Rattle.finding_runs.proofs.Beginning.{RunFits, begin_other, begin_bad, begin_no_list, begin_good, below_zero}
@@ -30,7 +28,7 @@ use Rattle.finding_runs.proofs.RunEnds.{Faulted, run_bad, run_faulty, run_unknow
 use Rattle.finding_runs.proofs.Quiet.{run_stopped, quiet_ids, quiet_keys}
 use Rattle.finding_runs.proofs.Refusals.{waivers_fine, waivers_unknown, refusal_21, refusal_1, refusal_4, refusal_13, refusal_14, refusal_12, refusal_0, given_refused, given_full, given_done, ids_stay, keys_stay, ids_written, keys_written}
 
-module _ (m s : ℕ) (keys bits : List ℕ) (n office : ℕ) (own : Own) (rules : List Rule) (waiver_ids waiver_keys ids found_keys : List ℕ) where
+module _ (m s : ℕ) (keys bits : List ℕ) (n office : ℕ) (own : OfficeRows) (rules : List Rule) (waiver_ids waiver_keys ids found_keys : List ℕ) where
   abbrev ws : List Finding
   ws = waivers_of waiver_ids waiver_keys
 
@@ -43,7 +41,7 @@ module _ (m s : ℕ) (keys bits : List ℕ) (n office : ℕ) (own : Own) (rules 
   abbrev refusal : ℕ
   refusal = refusal_with m s keys bits n office (not own.good) rules (waivers_of waiver_ids waiver_keys) ids found_keys
 
-  abbrev start : RunState
+  abbrev start : RunNumbers
   start = begin_of m s keys bits n office own (length ids) (length found_keys)
 
   abbrev begun : Progress
@@ -141,7 +139,7 @@ module _ (m s : ℕ) (keys bits : List ℕ) (n office : ℕ) (own : Own) (rules 
             good
             known
 
-        abbrev last : RunState
+        abbrev last : RunNumbers
         last = counted.state
 
         zero_last : last.refusal ≡ 0

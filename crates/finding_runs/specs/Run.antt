@@ -1,6 +1,6 @@
 -- A run over the rules, as the code goes: what a rule does to the state and to the two answer slices, how the first run begins, which run comes after a run,
 -- and what the last answers. Only contracts need these; that the runs give the findings of specification S13 is proved in proofs/.
-use Rattle.std.specs.Prelude.{ℕ, ◌+◌, ◌*◌, ◌≤◌, min, ◌≡◌, Bool, true, false, cond, not, ◌&&◌, ◌||◌, List, [], ◌∷◌, map, length, take, drop, leb, ltb, eqb}
+use Rattle.std.specs.Prelude.{ℕ, ◌+◌, ◌*◌, ◌≤◌, min, ◌≡◌, Bool, true, false, Option, Some, None, cond, not, ◌&&◌, ◌||◌, List, [], ◌∷◌, map, length, take, drop, leb, ltb, eqb}
 use Rattle.keys.specs.Key.{slot_limit, valid_key, all_keys}
 use Rattle.definitions.specs.Picture.{Picture}
 use Rattle.definitions.specs.Read.{room, records_of, picture_of, is_list}
@@ -9,9 +9,13 @@ use Rattle.definitions.specs.Rules.{Finding, findings_of, waivers_of, live_of, h
 use Rattle.definitions.specs.declared.Rule.{Rule}
 use Rattle.definitions.specs.declared.Found.{Found}
 use Rattle.list.specs.First.{first_refusal}
-use Rattle.offices.specs.Own.{no_rows, own_of}
-use Rattle.offices.specs.declared.own.Own.{Own}
+use Rattle.offices.specs.Own.{own_of}
+use Rattle.offices.specs.declared.own.OwnRows.{OwnRows}
 use Rattle.walk.specs.Given.{written}
+use Rattle.definitions.specs.Refused.{refusal_number}
+use Rattle.definitions.specs.declared.refusal.Refusal.{Refusal}
+use Rattle.finding_runs.specs.declared.state.Mode.{Mode}
+use Rattle.finding_runs.specs.declared.state.Mode.TheVariants.{Bounding, Walking, Resting}
 use Rattle.finding_runs.specs.declared.state.RunState.{RunState}
 
 -- how many waivers have a rule's id below x
@@ -28,17 +32,82 @@ keys_valid m (w ∷ ws) = valid_key m w.key && keys_valid m ws
 unfoldable pub waivers_good : ℕ → List Finding → Bool
 waivers_good m waivers = findings_ascend waivers && keys_valid m waivers
 
+-- where a run stands, in numbers: mode 0 bounds, 1 walks, 2 rests; and the refusal's number, or 0
+pub record RunNumbers : Type 0 where
+  pub m : ℕ
+  pub s : ℕ
+  pub n : ℕ
+  pub mode : ℕ
+  pub refusal : ℕ
+  pub next : ℕ
+  pub faulty : Bool
+  pub offset : ℕ
+  pub waivers : ℕ
+  pub passed : ℕ
+  pub limit : ℕ
+  pub room : ℕ
+  pub live : ℕ
+  pub hidden : ℕ
+
+abbrev pub mode_number : Mode → ℕ
+mode_number Bounding = 0
+mode_number Walking = 1
+mode_number Resting = 2
+
+abbrev pub number_or_zero : Option Refusal → ℕ
+number_or_zero None = 0
+number_or_zero (Some refusal) = refusal_number refusal
+
+abbrev pub numbers_told : RunState → RunNumbers
+numbers_told st =
+    record {
+      m = st.m;
+      s = st.s;
+      n = st.n;
+      mode = mode_number st.mode;
+      refusal = number_or_zero st.refusal;
+      next = st.next;
+      faulty = st.faulty;
+      offset = st.offset;
+      waivers = st.waivers;
+      passed = st.passed;
+      limit = st.limit;
+      room = st.room;
+      live = st.live;
+      hidden = st.hidden;
+    }
+
+-- the asking office's rows: whether the table is good, its keys included; then where they begin, and how many they are
+pub record OfficeRows : Type 0 where
+  pub good : Bool
+  pub offset : ℕ
+  pub count : ℕ
+
+-- no row, of a table that is good or not
+abbrev pub no_rows : Bool → OfficeRows
+no_rows good = record { good = good; offset = 0; count = 0 }
+
+abbrev pub rows_told : Option OwnRows → OfficeRows
+rows_told None = no_rows false
+rows_told (Some own) = record { good = true; offset = own.offset; count = own.count }
+
+abbrev pub own_told : (m office : ℕ) (offices ids waived : List ℕ) (rows : ℕ) → OfficeRows
+own_told m office offices ids waived rows = rows_told (own_of m office offices ids waived rows)
+
 -- the state, and what the two answer slices hold
 pub record Progress : Type 0 where
-  pub state : RunState
+  pub state : RunNumbers
   pub ids : List ℕ
   pub keys : List ℕ
 
-abbrev pub progress_of : RunState → List ℕ → List ℕ → Progress
+abbrev pub progress_told : RunState → List ℕ → List ℕ → Progress
+progress_told state ids keys = record { state = numbers_told state; ids = ids; keys = keys }
+
+abbrev pub progress_of : RunNumbers → List ℕ → List ℕ → Progress
 progress_of state ids keys = record { state = state; ids = ids; keys = keys }
 
 -- the same run, of which only what moves is told: settings, records, rows and room stay
-abbrev pub moved : (st : RunState) (mode refusal next : ℕ) (faulty : Bool) (passed limit live hidden : ℕ) → RunState
+abbrev pub moved : (st : RunNumbers) (mode refusal next : ℕ) (faulty : Bool) (passed limit live hidden : ℕ) → RunNumbers
 moved st mode refusal next faulty passed limit live hidden =
     record {
       m = st.m;
@@ -58,31 +127,31 @@ moved st mode refusal next faulty passed limit live hidden =
     }
 
 -- the run is refused with the number
-abbrev pub refusing : (number : ℕ) (st : RunState) → RunState
+abbrev pub refusing : (number : ℕ) (st : RunNumbers) → RunNumbers
 refusing number st = moved st st.mode number st.next st.faulty st.passed st.limit st.live st.hidden
 
 -- a waiver is wrong: from here on only the rules are looked at
-abbrev pub faulty_from : (next : ℕ) (st : RunState) → RunState
+abbrev pub faulty_from : (next : ℕ) (st : RunNumbers) → RunNumbers
 faulty_from next st = moved st st.mode st.refusal next true st.passed st.limit st.live st.hidden
 
 -- the rule's findings are counted
-abbrev pub counting : (next passed live hidden : ℕ) (st : RunState) → RunState
+abbrev pub counting : (next passed live hidden : ℕ) (st : RunNumbers) → RunNumbers
 counting next passed live hidden st = moved st st.mode st.refusal next st.faulty passed st.limit live hidden
 
 -- the same run, which only bounds the number of findings, by the number so far
-abbrev pub bounding : (live : ℕ) (st : RunState) → RunState
+abbrev pub bounding : (live : ℕ) (st : RunNumbers) → RunNumbers
 bounding live st = moved st 0 st.refusal st.next st.faulty st.passed st.limit live 0
 
 -- a run that passes over all rules
-abbrev pub resting : (st : RunState) → RunState
+abbrev pub resting : (st : RunNumbers) → RunNumbers
 resting st = moved st 2 st.refusal st.next st.faulty st.passed st.limit st.live st.hidden
 
 -- a run that goes through the rules from the first, and writes up to the limit
-abbrev pub restarting : (limit : ℕ) (st : RunState) → RunState
+abbrev pub restarting : (limit : ℕ) (st : RunNumbers) → RunNumbers
 restarting limit st = moved st 1 0 0 false 0 limit 0 0
 
 -- the rule has the least id that may come, or a larger one, and is good
-abbrev pub may_come : Rule → RunState → Bool
+abbrev pub may_come : Rule → RunNumbers → Bool
 may_come rule st = leb st.next rule.id && is_rule st.m st.s rule
 
 -- how many pixels the rule's window has
@@ -93,14 +162,14 @@ module _ (keys bits waiver_ids waiver_keys : List ℕ) where
   abbrev waivers : List Finding
   waivers = waivers_of waiver_ids waiver_keys
 
-  abbrev pub picture : RunState → Picture
+  abbrev pub picture : RunNumbers → Picture
   picture st = picture_of st.m (records_of keys bits st.n)
 
   -- some waiver's id is past the rules before this one, and before this one's
-  abbrev pub is_unknown : Rule → RunState → Bool
+  abbrev pub is_unknown : Rule → RunNumbers → Bool
   is_unknown rule st = ltb (waivers_below st.next waivers) (waivers_below rule.id waivers)
 
-  abbrev pub findings_at : Rule → RunState → List Finding
+  abbrev pub findings_at : Rule → RunNumbers → List Finding
   findings_at rule st = findings_of st.m (picture st) rule
 
   -- the rule's findings that its waivers do not hide are counted and written, the others counted
@@ -159,7 +228,7 @@ module _ (keys bits waiver_ids waiver_keys : List ℕ) where
     pub fine : p.state.refusal ≡ 0 → RulesFine p
 
 -- the part of a slice of the table that the asking office's rows take
-abbrev pub own_part : RunState → List ℕ → List ℕ
+abbrev pub own_part : RunNumbers → List ℕ → List ℕ
 own_part st l = take st.waivers (drop st.offset l)
 
 module _ (keys bits ids waived : List ℕ) where
@@ -180,7 +249,7 @@ module _ (keys bits ids waived : List ℕ) where
 unfoldable pub begin_refusal : ℕ → ℕ → ℕ → List ℕ → List ℕ → ℕ → ℕ
 begin_refusal office m s keys bits n = cond (bad_office office) 21 (first_refusal m s keys bits n)
 
-unfoldable pub begin_of : ℕ → ℕ → List ℕ → List ℕ → ℕ → ℕ → Own → ℕ → ℕ → RunState
+unfoldable pub begin_of : ℕ → ℕ → List ℕ → List ℕ → ℕ → ℕ → OfficeRows → ℕ → ℕ → RunNumbers
 begin_of m s keys bits n office own room_ids room_keys =
     record {
       m = m;
@@ -200,12 +269,12 @@ begin_of m s keys bits n office own room_ids room_keys =
     }
 
 -- the asking office's rows, which are looked for where nothing is refused so far
-unfoldable pub own_at : ℕ → ℕ → List ℕ → List ℕ → ℕ → ℕ → List ℕ → List ℕ → List ℕ → ℕ → Own
+unfoldable pub own_at : ℕ → ℕ → List ℕ → List ℕ → ℕ → ℕ → List ℕ → List ℕ → List ℕ → ℕ → OfficeRows
 own_at m s keys bits n office offices ids waived rows =
-    cond (eqb (begin_refusal office m s keys bits n) 0) (own_of m office offices ids waived rows) (no_rows true)
+    cond (eqb (begin_refusal office m s keys bits n) 0) (own_told m office offices ids waived rows) (no_rows true)
 
 -- a run is over: 14 is decided, and 12 where the findings were counted; then comes the run that counts, or that writes
-unfoldable pub after_run : RunState → RunState
+unfoldable pub after_run : RunNumbers → RunNumbers
 after_run st =
     cond (eqb st.refusal 0)
     (cond (st.faulty || ltb st.passed st.waivers) (refusing 14 st)
@@ -215,7 +284,7 @@ after_run st =
     st
 
 -- what the call answers
-unfoldable pub answer_of : RunState → Found
+unfoldable pub answer_of : RunNumbers → Found
 answer_of st =
     record {
       refusal = st.refusal;

@@ -1,7 +1,7 @@
 // One rule of a run: whether it may come, whether a waiver is wrong, and else its findings against its waivers, which stand one after the other.
 ghost use Rattle.std.specs.Prelude.{◌≡◌, ◌^◌, ◌≤◌};
 ghost use Rattle.keys.specs.Key.{deepest_side};
-ghost use Rattle.finding_runs.specs.Run.{progress_of, may_come, served, RulesReady, rule_step, TableReady, table_step};
+ghost use Rattle.finding_runs.specs.Run.{progress_told, numbers_told, may_come, served, RulesReady, rule_step, TableReady, table_step};
 ghost use Rattle.finding_runs.specs.Step.{Gatherable, widened};
 
 use crate::state::RunState;
@@ -9,15 +9,15 @@ use crate::{state, waivers};
 use definitions::refusal::Refusal;
 use definitions::{Rule, Window};
 use finding::Sifting;
+use list::acceptance::taken;
 use walk::bounds;
 
 // The rule's id is not below the least that may come, and the rule is good.
 fn may_come(rule: Rule, state: RunState) -> bool
     requires { state.m ≤ 10 }
-    ensures { result ≡ may_come rule state }
+    ensures { result ≡ may_come rule (numbers_told state) }
 {
-    let id = rule.id as u64;
-    if id < state.next {
+    if u64::from(rule.id) < state.next {
         return false;
     }
     if state.s <= rule.feature {
@@ -38,9 +38,10 @@ fn widen(rule: Rule, at: Sifting) -> Sifting
     ensures { result ≡ widened rule at }
 {
     let pixels = rule.height * rule.width;
-    let mut wider = at;
-    wider.live = at.live + pixels as usize;
-    wider
+    Sifting {
+        live: at.live + pixels as usize,
+        ..at
+    }
 }
 
 // The rule's findings that its waivers do not hide are counted and written, the others counted; or their number is only bounded.
@@ -54,13 +55,13 @@ fn gather(
     found_keys: &mut [u32],
     state: RunState,
 ) -> RunState
-    requires { Gatherable keys.now bits.now waiver_ids.now waiver_keys.now rule (progress_of state found_ids.old found_keys.old) }
-    ensures { progress_of result found_ids.new found_keys.new
+    requires { Gatherable keys.now bits.now waiver_ids.now waiver_keys.now rule (progress_told state found_ids.old found_keys.old) }
+    ensures { progress_told result found_ids.new found_keys.new
         ≡ served keys.now bits.now waiver_ids.now waiver_keys.now rule
-        (progress_of state found_ids.old found_keys.old) }
+        (progress_told state found_ids.old found_keys.old) }
 {
     let id = rule.id;
-    let next = id as u64 + 1;
+    let next = u64::from(id) + 1;
     let passed = state.passed;
     let end = waivers::own_end(waiver_ids, passed, state.waivers, id);
     let at = Sifting {
@@ -69,17 +70,15 @@ fn gather(
         live: state.live,
         hidden: state.hidden,
     };
-    if state.mode == state::BOUNDING {
+    if state.mode.bounds() {
         return state::counted(state, next, end, widen(rule, at));
     }
+    let list = taken(state.m, keys, bits, state.n);
     let sifted = finding::sift_rule(
         rule,
-        state.m,
-        state.n,
-        state.limit,
-        keys,
-        bits,
+        &list,
         &waiver_keys[passed..end],
+        state.limit,
         found_ids,
         found_keys,
         at,
@@ -98,24 +97,24 @@ fn own_step(
     found_keys: &mut [u32],
     state: RunState,
 ) -> RunState
-    requires { RulesReady keys.now bits.now waiver_ids.now waiver_keys.now (progress_of state found_ids.old found_keys.old) }
-    ensures { progress_of result found_ids.new found_keys.new
+    requires { RulesReady keys.now bits.now waiver_ids.now waiver_keys.now (progress_told state found_ids.old found_keys.old) }
+    ensures { progress_told result found_ids.new found_keys.new
         ≡ rule_step keys.now bits.now waiver_ids.now waiver_keys.now rule
-        (progress_of state found_ids.old found_keys.old) }
+        (progress_told state found_ids.old found_keys.old) }
 {
     let id = rule.id;
-    if state.refusal != 0 {
+    let stopped = state.refusal.is_some();
+    if stopped {
         return state;
     }
-    if state.mode == state::RESTING {
+    if state.mode.rests() {
         return state;
     }
     if !may_come(rule, state) {
-        return state::refused(state, Refusal::RULES);
+        return state::refused(state, Refusal::Rules);
     }
     if waivers::waiver_is_wrong(id, waiver_ids, state) {
-        let next = id as u64 + 1;
-        return state::faulty_from(state, next);
+        return state::faulty_from(state, u64::from(id) + 1);
     }
     gather(
         rule,
@@ -140,10 +139,10 @@ pub fn step(
     found_keys: &mut [u32],
     state: RunState,
 ) -> RunState
-    requires { TableReady keys.now bits.now waiver_ids.now waiver_keys.now (progress_of state found_ids.old found_keys.old) }
-    ensures { progress_of result found_ids.new found_keys.new
+    requires { TableReady keys.now bits.now waiver_ids.now waiver_keys.now (progress_told state found_ids.old found_keys.old) }
+    ensures { progress_told result found_ids.new found_keys.new
         ≡ table_step keys.now bits.now waiver_ids.now waiver_keys.now rule
-        (progress_of state found_ids.old found_keys.old) }
+        (progress_told state found_ids.old found_keys.old) }
 {
     let from = state.offset;
     let end = from + state.waivers;

@@ -1,22 +1,40 @@
 // The runs of findings: how the first begins, which run comes after a run, and what the last answers.
 ghost use Rattle.std.specs.Prelude.{◌≡◌};
-ghost use Rattle.finding_runs.specs.Run.{bounding, begin_refusal, begin_of, own_at, after_run, answer_of};
+ghost use Rattle.definitions.specs.Answered.{as_found};
+ghost use Rattle.finding_runs.specs.Run.{numbers_told, number_or_zero, bounding, begin_refusal, begin_of, own_at, after_run, answer_of};
 
 use crate::state;
-use crate::state::RunState;
-use definitions::Found;
+use crate::state::{Mode, RunState};
+use definitions::answers::FindingCounts;
 use definitions::refusal::Refusal;
-use list::refusal::first_refusal;
+use list::acceptance::accept;
 use offices::own;
+use offices::own::OwnRows;
+
+// The rows of an office where the table is not looked at.
+const NO_ROWS: OwnRows = OwnRows {
+    offset: 0,
+    count: 0,
+};
 
 // The refusals 21, 1 and 4.
-fn begin_refusal(office: u32, m: u32, s: u32, keys: &[u32], bits: &[u32], n: usize) -> u64
-    ensures { result ≡ begin_refusal office m s keys.now bits.now n }
+fn begin_refusal(
+    office: u32,
+    m: u32,
+    s: u32,
+    keys: &[u32],
+    bits: &[u32],
+    n: usize,
+) -> Option<Refusal>
+    ensures { number_or_zero result ≡ begin_refusal office m s keys.now bits.now n }
 {
     if 1 < office {
-        return Refusal::OFFICE;
+        return Some(Refusal::Office);
     }
-    first_refusal(m, s, keys, bits, n)
+    match accept(m, s, keys, bits, n) {
+        Ok(_) => None,
+        Err(refusal) => Some(refusal),
+    }
 }
 
 // The run that checks begins: it bounds the number of findings. The table is looked at where nothing is refused so far.
@@ -34,27 +52,28 @@ pub fn begin(
     room_ids: usize,
     room_keys: usize,
 ) -> RunState
-    ensures { result ≡ bounding 0 (begin_of m s keys.now bits.now n office
+    ensures { numbers_told result ≡ bounding 0 (begin_of m s keys.now bits.now n office
         (own_at m s keys.now bits.now n office offices.now ids.now waived.now rows) room_ids room_keys) }
 {
     let refusal = begin_refusal(office, m, s, keys, bits, n);
-    let mut own = own::none(true);
-    if refusal == 0 {
-        own = own::own_rows(m, office, offices, ids, waived, rows);
-    }
+    let own = match refusal {
+        None => own::own_rows(m, office, offices, ids, waived, rows),
+        Some(_) => Some(NO_ROWS),
+    };
+    let rows = own.unwrap_or(NO_ROWS);
     RunState {
         m,
         s,
         n,
-        mode: state::BOUNDING,
+        mode: Mode::Bounding,
         refusal,
         next: 0,
-        faulty: !own.good,
-        offset: own.offset,
-        waivers: own.count,
+        faulty: own.is_none(),
+        offset: rows.offset,
+        waivers: rows.count,
         passed: 0,
         limit: 0,
-        room: slices::smaller(room_ids, room_keys),
+        room: room_ids.min(room_keys),
         live: 0,
         hidden: 0,
     }
@@ -62,54 +81,42 @@ pub fn begin(
 
 // A run is over: 14 is decided, and 12 where the findings were counted; then comes the run that counts, if the bound is past the room, or that writes.
 pub fn begin_next(state: RunState) -> RunState
-    ensures { result ≡ after_run state }
+    ensures { numbers_told result ≡ after_run (numbers_told state) }
 {
     let room = state.room;
-    if state.refusal != 0 {
+    if state.refusal.is_some() {
         return state;
     }
     if state.faulty {
-        return state::refused(state, Refusal::WAIVERS);
+        return state::refused(state, Refusal::Waivers);
     }
     if state.passed < state.waivers {
-        return state::refused(state, Refusal::WAIVERS);
+        return state::refused(state, Refusal::Waivers);
     }
-    if state.mode == state::BOUNDING {
+    if state.mode.bounds() {
         if room < state.live {
             return state::restarted(state, 0);
         }
         return state::rested(state);
     }
     if room < state.live {
-        return state::refused(state, Refusal::ANSWER_ROOM);
+        return state::refused(state, Refusal::AnswerRoom(state.live as u64));
     }
     state::restarted(state, room)
 }
 
-// With 12 live is the number of places needed, and hidden is 0.
-pub fn answer(state: RunState) -> Found
-    ensures { result ≡ answer_of state }
+// With 12 the findings are told that need places.
+pub fn answer(state: RunState) -> Result<FindingCounts, Refusal>
+    ensures { as_found result ≡ answer_of (numbers_told state) }
 {
-    let refusal = state.refusal;
-    let live = state.live;
-    let hidden = state.hidden;
-    if refusal == 0 {
-        return Found {
-            refusal,
-            live: live as u64,
-            hidden: hidden as u64,
-        };
-    }
-    if refusal == Refusal::ANSWER_ROOM {
-        return Found {
-            refusal,
-            live: live as u64,
-            hidden: 0,
-        };
-    }
-    Found {
-        refusal,
-        live: 0,
-        hidden: 0,
+    let Some(refusal) = state.refusal else {
+        return Ok(FindingCounts {
+            live: state.live,
+            hidden: state.hidden,
+        });
+    };
+    match refusal {
+        Refusal::AnswerRoom(_) => Err(Refusal::AnswerRoom(state.live as u64)),
+        _ => Err(refusal),
     }
 }

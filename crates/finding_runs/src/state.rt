@@ -1,19 +1,39 @@
 // Where a run over the rules stands, and how one thing after the other changes it.
-ghost use Rattle.std.specs.Prelude.{◌≡◌};
-ghost use Rattle.finding_runs.specs.Run.{refusing, faulty_from, counting, resting, restarting};
+ghost use Rattle.std.specs.Prelude.{◌≡◌, eqb};
+ghost use Rattle.definitions.specs.Refused.{refusal_number};
+ghost use Rattle.finding_runs.specs.Run.{mode_number, numbers_told, refusing, faulty_from, counting, resting, restarting};
 
+use definitions::refusal::Refusal;
 use finding::Sifting;
 
-// A run that only bounds the number of a rule's findings, by the pixels of its window.
-pub const BOUNDING: u32 = 0;
+// What a run does with a rule.
+#[derive(Clone, Copy, PartialEq, Eq)]
+pub enum Mode {
+    // It only bounds the number of the rule's findings, by the pixels of its window.
+    Bounding,
 
-// A run that walks the windows, and counts the findings and writes them up to its limit.
-pub const WALKING: u32 = 1;
+    // It walks the window, counts the findings and writes them up to its limit.
+    Walking,
 
-// A run that passes over all rules.
-pub const RESTING: u32 = 2;
+    // It passes over all rules.
+    Resting,
+}
 
-// Where a run over the rules stands: the settings and the number of records; which of the three runs it is; the refusal, or 0; the least id that the next rule may have;
+impl Mode {
+    pub fn bounds(self) -> bool
+        ensures { result ≡ eqb (mode_number self) 0 }
+    {
+        matches!(self, Mode::Bounding)
+    }
+
+    pub fn rests(self) -> bool
+        ensures { result ≡ eqb (mode_number self) 2 }
+    {
+        matches!(self, Mode::Resting)
+    }
+}
+
+// Where a run over the rules stands: the settings and the number of records; which of the three runs it is; the refusal, if it is refused; the least id that the next rule may have;
 // whether a waiver is wrong; where the asking office's rows begin, how many they are and how many are passed; how many findings may be written, and how many have room; and how many
 // were live and hidden. A run that bounds has in `live` a number that the live findings do not exceed.
 #[derive(Clone, Copy)]
@@ -21,8 +41,8 @@ pub struct RunState {
     pub m: u32,
     pub s: u32,
     pub n: usize,
-    pub mode: u32,
-    pub refusal: u64,
+    pub mode: Mode,
+    pub refusal: Option<Refusal>,
     pub next: u64,
     pub faulty: bool,
     pub offset: usize,
@@ -35,63 +55,62 @@ pub struct RunState {
 }
 
 // The run is refused.
-pub fn refused(state: RunState, number: u64) -> RunState
-    ensures { result ≡ refusing number state }
+pub fn refused(state: RunState, refusal: Refusal) -> RunState
+    ensures { numbers_told result ≡ refusing (refusal_number refusal) (numbers_told state) }
 {
-    let mut st = state;
-    st.refusal = number;
-    st
+    RunState {
+        refusal: Some(refusal),
+        ..state
+    }
 }
 
 // A waiver is wrong: from here on only the rules are looked at.
 pub fn faulty_from(state: RunState, next: u64) -> RunState
-    ensures { result ≡ faulty_from next state }
+    ensures { numbers_told result ≡ faulty_from next (numbers_told state) }
 {
-    let mut st = state;
-    st.next = next;
-    st.faulty = true;
-    st
+    RunState {
+        next,
+        faulty: true,
+        ..state
+    }
 }
 
 // The rule's findings are counted.
 pub fn counted(state: RunState, next: u64, passed: usize, sifted: Sifting) -> RunState
-    ensures { result ≡ counting next passed sifted.live sifted.hidden state }
+    ensures { numbers_told result ≡ counting next passed sifted.live sifted.hidden (numbers_told state) }
 {
-    let mut st = state;
-    st.next = next;
-    st.passed = passed;
-    st.live = sifted.live;
-    st.hidden = sifted.hidden;
-    st
+    RunState {
+        next,
+        passed,
+        live: sifted.live,
+        hidden: sifted.hidden,
+        ..state
+    }
 }
 
 // The next run has nothing to count: the bound is within the room.
 pub fn rested(state: RunState) -> RunState
-    ensures { result ≡ resting state }
+    ensures { numbers_told result ≡ resting (numbers_told state) }
 {
-    let mut st = state;
-    st.mode = RESTING;
-    st
+    RunState {
+        mode: Mode::Resting,
+        ..state
+    }
 }
 
 // The rules are gone through from the first again, and up to the limit findings are written.
 pub fn restarted(state: RunState, limit: usize) -> RunState
-    ensures { result ≡ restarting limit state }
+    ensures { numbers_told result ≡ restarting limit (numbers_told state) }
 {
     RunState {
-        m: state.m,
-        s: state.s,
-        n: state.n,
-        mode: WALKING,
-        refusal: 0,
+        mode: Mode::Walking,
+        refusal: None,
         next: 0,
         faulty: false,
-        offset: state.offset,
-        waivers: state.waivers,
         passed: 0,
         limit,
-        room: state.room,
         live: 0,
         hidden: 0,
+        ..state
     }
 }

@@ -9,15 +9,7 @@ pub fn waiver_is_wrong(id: u32, waiver_ids: &[u32], state: RunState) -> bool
     requires { state.waivers ≤ length waiver_ids.now }
     ensures { result ≡ state.faulty || ltb state.passed state.waivers && ltb (get_or waiver_ids.now state.passed 0) id }
 {
-    let passed = state.passed;
-    if state.faulty {
-        return true;
-    }
-    if passed < state.waivers {
-        waiver_ids[passed] < id
-    } else {
-        false
-    }
+    state.faulty || state.passed < state.waivers && waiver_ids[state.passed] < id
 }
 
 // The first place from a place on whose waiver has a larger id.
@@ -25,12 +17,10 @@ pub fn own_end(waiver_ids: &[u32], from: usize, count: usize, id: u32) -> usize
     requires { (from ≤ count) × (count ≤ length waiver_ids.now) }
     ensures { OwnEnd waiver_ids.now from count id result }
 {
-    let mut place = from;
-    while place < count {
+    for place in from..count {
         if id < waiver_ids[place] {
             return place;
         }
-        place += 1;
     }
-    place
+    count
 }

@@ -1,5 +1,5 @@
--- What adding and removing decide, test by test, and what an accepted call may build on. Rests on Checked, Place
--- and Needed.
+-- What adding and removing decide, test by test, and what an accepted call may build on. Rests on Checked and
+-- Place, and on Needed of definitions.
 use Prim.Native.Nat.{ℕ, ◌≤◌, ◌<◌}
 use mathlib.Core.Path.{◌≡◌, refl, sym, ap, ◌∙◌}
 use mathlib.Core.Bool.{true, false, not, cond}
@@ -22,7 +22,7 @@ use Rattle.definitions.specs.declared.refusal.Refusal.{Refusal}
 use Rattle.definitions.specs.Refused.{refusal_number, places_needed}
 use Rattle.definitions.proofs.Refused.{refusal_some}
 use Rattle.offices.specs.Place.{row_place, leads, row_found}
-use Rattle.offices.proofs.Needed.{none_needed}
+use Rattle.definitions.proofs.Needed.{none_needed}
 use Rattle.offices.specs.Refusal.{table_refusal, decided_on}
 use Rattle.offices.proofs.Place.{place_within, row_there, leads_within}
 use Rattle.offices.proofs.Checked.{TablePlaces, table_places, table_holds, table_sound}

@@ -3,7 +3,6 @@ pub mod Place
 pub mod Counted
 pub mod Moved
 pub mod Checked
-pub mod Needed
 pub mod Decided
 pub mod Answers
 pub mod OwnRows

@@ -1,12 +1,6 @@
--- `waivers::own_end` meets its contract: the waivers that it passes have no larger id.
-use Prim.Native.Nat.{◌-◌}
+-- The waivers passed have no larger id.
 use Rattle.finding_runs.specs.Step.{OwnFrom}
 use Rattle.finding_runs.proofs.waivers.own_end.Given as goal
 
 abbrev pub invariant-loop-place : goal.invariant-loop-place
-invariant-loop-place l =
-    OwnFrom l.waiver_ids l.from l.count l.id l.place
-
-abbrev pub decreases-loop-place : goal.decreases-loop-place
-decreases-loop-place l =
-    l.count - l.place
+invariant-loop-place l = OwnFrom l.waiver_ids l.from l.count l.id l.place
