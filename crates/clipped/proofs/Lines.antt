@@ -1,50 +1,45 @@
 -- Signed lines by cases of their sign, and what a local of the code, which keeps the bits, says of the line. Rests on the definition of a clipped
 -- window and on laws' Overlap.
-use Prim.Native.Nat.{ℕ, suc, ◌≤◌, ◌^◌}
-use mathlib.Core.Path.{◌≡◌, refl, sym, ap, ◌∙◌}
-use mathlib.Core.Bool.{true, false}
+use Prim.Native.Nat.{ℕ, ◌-◌, ◌≤◌, ◌^◌, min}
+use mathlib.Core.Path.{◌≡◌, sym, ap, ◌∙◌}
 use native.Mathlib.Omega.{arith}
-use lib.Dec.{ltb}
-use lib.IntN.{ℤ, pos, negsuc, ◌-ℤ◌}
-use lib.Signed.{◌≤ℤ◌, ◌<ℤ◌, mag, lt_z, lt_z_no}
+use lib.IntN.{ℤ, pos, negsuc, nat_abs}
 use mir.Syntax.{w32}
 use mir.Val.{SFits, to_z, of_z}
 use mir.ValLaws.{to_z-of_z}
-use borrow.Author.Tests.{le-ltb, ltb-true}
+use Rattle.std.specs.Prelude.{Result, Ok, Err}
+use Rattle.std.specs.Int.{FitsUnsignedBits}
+use Rattle.std.specs.Result.{OkIff, result_unwrap_or}
+use Rattle.keys.proofs.Cases.{split}
 use Rattle.definitions.specs.Clip.{not_before, overlap_length, overlap_window, clipped_window}
 use Rattle.definitions.specs.declared.Window.{Window}
-use Rattle.laws.proofs.Overlap.{is_true, not_before_zero}
+use Rattle.laws.proofs.Overlap.{before_none, before_some, from_none, from_some, not_before_zero, not_before_line}
 
-pub negative_is : (z : ℤ) → z <ℤ pos 0 → z ≡ negsuc (mag z)
-negative_is (pos n) h = absurd (let l = ltb-true n 0 (is_true (ltb n 0) h.lt) in omega arith)
-negative_is (negsuc n) h = refl
+-- the amount of a line that fits 32 bits without a sign, or 0: the overlap's first line
+pub line_or_none : {E : Type 0} (r : Result ℕ E) (line : ℤ) → SFits w32 line → OkIff r (FitsUnsignedBits 32 line) (nat_abs line) → result_unwrap_or r 0 ≡ not_before line
+line_or_none (Ok x) (pos n) f h = h.1 ∙ sym (not_before_line n)
+line_or_none (Ok x) (negsuc n) f h = absurd h.0
+line_or_none (Err e) (pos n) f h = let fits = f.sfits in absurd (h (omega arith))
+line_or_none (Err e) (negsuc n) f h = sym (not_before_zero n)
 
-pub other_is : (z : ℤ) → pos 0 ≤ℤ z → z ≡ pos (mag z)
-other_is (pos n) h = refl
-other_is (negsuc n) h = absurd h.le
+-- how many lines a window has in the raster that begins in it or behind it
+pub common_from : (line : ℤ) (length side : ℕ) {first common : ℕ} → FitsUnsignedBits 32 line → first ≡ nat_abs line → common ≡ min length (side - first)
+    → common ≡ overlap_length line length side
+common_from (pos n) length side fits is e =
+    split n side (λ h. omega (arith, from_some n length side h)) (λ h. omega (arith, from_none n length side h))
+common_from (negsuc n) length side fits is e = absurd fits
 
--- -1 less a negative number
-less_one : (before : ℕ) → negsuc 0 -ℤ negsuc before ≡ pos before
-less_one before = rw (le-ltb (suc before) 1 (omega arith)) (ap pos (omega arith))
+-- and one that begins before it
+pub common_before : (line : ℤ) (length side : ℕ) {before common : ℕ} → SFits w32 line → (FitsUnsignedBits 32 line → ⊥) → before ≡ nat_abs line
+    → common ≡ min (length - before) side
+    → common ≡ overlap_length line length side
+common_before (pos n) length side f none is e = let fits = f.sfits in absurd (none (omega arith))
+common_before (negsuc n) length side f none is e =
+    split n length (λ h. omega (arith, before_some n length side h)) (λ h. omega (arith, before_none n length side h))
 
-pub less_is : (z : ℤ) → z <ℤ pos 0 → negsuc 0 -ℤ z ≡ pos (mag z)
-less_is z h = ap (λ y. negsuc 0 -ℤ y) (negative_is z h) ∙ less_one (mag z)
-
-pub less_fits : (z : ℤ) → SFits w32 z → z <ℤ pos 0 → SFits w32 (negsuc 0 -ℤ z)
-less_fits z f h = rw (less_is z h) (record { sfits = f.sfits })
-
--- the test `z < 0` failed
-pub not_negative : (z : ℤ) → lt_z z (pos 0) ≡ false → pos 0 ≤ℤ z
-not_negative z e = lt_z_no (rw e tt)
-
--- or passed: the overlap begins with the raster
-pub negative_none : (z : ℤ) → lt_z z (pos 0) ≡ true → not_before z ≡ 0
-negative_none (pos n) e = absurd (let l = ltb-true n 0 e in omega arith)
-negative_none (negsuc n) e = not_before_zero n
-
--- what is known of the bits is known of the line
-pub line_is : (z y : ℤ) → SFits w32 z → to_z w32 (of_z w32 z) ≡ y → z ≡ y
-line_is z y f e = sym (to_z-of_z w32 z f) ∙ e
+-- what a local of the code keeps of a line
+pub bits_fit : (line : ℤ) → SFits w32 line → SFits w32 (to_z w32 (of_z w32 line))
+bits_fit line f = rw (to_z-of_z w32 line f) f
 
 pub same_start : {first : ℕ} (start : ℤ) → SFits w32 start → first ≡ not_before (to_z w32 (of_z w32 start)) → first ≡ not_before start
 same_start start f e = e ∙ ap not_before (to_z-of_z w32 start f)

@@ -1,10 +1,11 @@
 // The calls that ask a window that may reach over the edge: each is the strict call on the clipped window. They refuse by the strict tables, and
 // require nothing.
 ghost use Rattle.std.specs.Prelude.{◌≡◌};
+ghost use Rattle.definitions.specs.Answered.{as_exists, as_reported, as_counted, as_measured};
 ghost use Rattle.definitions.specs.Calls.Clipped.{exist_clipped, report_clipped, select_clipped, select_answer_clipped, area_clipped};
 
 use crate::clip::clipped_window;
-use definitions::{Counted, Exists, Measured, Reported};
+use definitions::refusal::Refusal;
 
 // Does the feature occur in the window? Yes is 1.
 pub fn exist_clipped(
@@ -18,8 +19,8 @@ pub fn exist_clipped(
     height: u32,
     width: u32,
     feature: u32,
-) -> Exists
-    ensures { result ≡ exist_clipped m s keys.now bits.now n row column height width feature }
+) -> Result<bool, Refusal>
+    ensures { as_exists result ≡ exist_clipped m s keys.now bits.now n row column height width feature }
 {
     let window = clipped_window(m, row, column, height, width);
     window::calls::exist(m, s, keys, bits, n, window, feature)
@@ -36,8 +37,8 @@ pub fn report_clipped(
     column: i32,
     height: u32,
     width: u32,
-) -> Reported
-    ensures { result ≡ report_clipped m s keys.now bits.now n row column height width }
+) -> Result<u32, Refusal>
+    ensures { as_reported result ≡ report_clipped m s keys.now bits.now n row column height width }
 {
     let window = clipped_window(m, row, column, height, width);
     window::calls::report(m, s, keys, bits, n, window)
@@ -56,8 +57,8 @@ pub fn select_clipped(
     width: u32,
     feature: u32,
     answer: &mut [u32],
-) -> Counted
-    ensures value { result ≡ select_clipped m s keys.now bits.now n row column height width feature answer.old }
+) -> Result<usize, Refusal>
+    ensures value { as_counted result ≡ select_clipped m s keys.now bits.now n row column height width feature answer.old }
     ensures answer_after { answer.new
         ≡ select_answer_clipped m s keys.now bits.now n row column height width feature answer.old }
 {
@@ -78,8 +79,8 @@ pub fn area_clipped(
     height: u32,
     width: u32,
     feature: u32,
-) -> Measured
-    ensures { result ≡ area_clipped m s keys.now bits.now n summary.now row column height width feature }
+) -> Result<u32, Refusal>
+    ensures { as_measured result ≡ area_clipped m s keys.now bits.now n summary.now row column height width feature }
 {
     let window = clipped_window(m, row, column, height, width);
     area::calls::area(m, s, keys, bits, n, summary, window, feature)

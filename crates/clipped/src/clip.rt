@@ -1,53 +1,32 @@
 // The overlap of a dragged window with the raster. Start and length are any 32-bit numbers, so their sum is never formed.
-ghost use Rattle.std.specs.Prelude.{◌≡◌, ◌≤◌, ◌^◌, min};
+ghost use Rattle.std.specs.Prelude.{◌≡◌, ◌≤◌, ◌^◌};
 ghost use Rattle.definitions.specs.Clip.{not_before, overlap_length, clipped_window};
 
-use crate::signs::{before_first, from_first};
 use definitions::Window;
 use keys::power;
-
-fn smaller(a: u32, b: u32) -> u32
-    ensures { result ≡ min a b }
-{
-    if a < b { a } else { b }
-}
 
 // The raster's side. Every call refuses an m above 10 whatever the window is, so 0 serves there.
 fn side_of(m: u32) -> u32
     ensures { m ≤ 10 → result ≡ 2 ^ m }
 {
-    if 10 < m {
-        return 0;
-    }
-    power::power_of_two(m)
+    if 10 < m { 0 } else { power::power_of_two(m) }
 }
 
 // The first line of the overlap.
 fn not_before(start: i32) -> u32
     ensures { result ≡ not_before start }
 {
-    if start < 0 {
-        return 0;
-    }
-    from_first(start)
+    u32::try_from(start).unwrap_or(0)
 }
 
-// How many lines the overlap has.
+// How many lines the overlap has. Of a window that begins before the raster the lines there are taken off.
 fn overlap_length(start: i32, length: u32, side: u32) -> u32
     ensures { result ≡ overlap_length start length side }
 {
-    if start < 0 {
-        let before = before_first(start);
-        if length <= before {
-            return 0;
-        }
-        return smaller(length - before - 1, side);
+    match u32::try_from(start) {
+        Ok(first) => length.min(side.saturating_sub(first)),
+        Err(_) => length.saturating_sub(start.unsigned_abs()).min(side),
     }
-    let first = from_first(start);
-    if side <= first {
-        return 0;
-    }
-    smaller(length, side - first)
 }
 
 // The window clipped to the raster; without a common pixel its height or width is 0, which every strict call refuses by 6.

@@ -3,4 +3,3 @@
 
 pub mod calls;
 pub mod clip;
-pub mod signs;

@@ -1,16 +1,7 @@
--- `clip::not_before` meets its contract, by the sign of the line.
-use mathlib.Core.Path.{sym, ap, ◌∙◌}
-use Rattle.definitions.specs.Clip.{not_before}
-use Rattle.laws.proofs.Overlap.{not_before_line}
-use Rattle.clipped.proofs.Lines.{not_negative, negative_none, same_start, line_is}
+-- `clip::not_before` meets its contract: a line before the raster does not fit without a sign.
+use mathlib.Core.Path.{◌∙◌}
+use Rattle.clipped.proofs.Lines.{line_or_none, bits_fit, same_start}
 use Rattle.clipped.proofs.clip.not_before.Goals as goal
 
-pub returns-then-start-lt0 : goal.returns-then-start-lt0
-returns-then-start-lt0 c = same_start _ c.ranges.start (sym (negative_none _ c.if-start-lt0.true))
-
-pub from_first-requires : goal.from_first-requires
-from_first-requires c = not_negative _ c.if-start-lt0.false
-
 pub returns : goal.returns
-returns c =
-    sym (ap not_before (line_is _ _ c.ranges.start c.from_first.ensures) ∙ not_before_line _)
+returns c = same_start _ c.ranges.start (c.unwrap_or.ensures ∙ line_or_none c.try_from.result _ (bits_fit _ c.ranges.start) c.try_from.ensures)
