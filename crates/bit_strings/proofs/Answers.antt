@@ -1,18 +1,16 @@
 -- The answers of the small tests and of the two calls' tables, one for each way out of the code. Rests on the laws of tables.
-use Prim.Native.Nat.{ℕ, ◌+◌, ◌≤◌, ◌<◌, min}
+use Prim.Native.Nat.{ℕ, ◌+◌}
 use mir.Val.{bool_byte}
 use mathlib.Core.Path.{◌≡◌, refl, sym, ap, ◌∙◌}
-use mathlib.Core.Bool.{Bool, true, false, cond, not, ◌||◌}
+use mathlib.Core.Bool.{Bool, true, false, cond, not}
 use mathlib.Core.List.{List}
 use native.Mathlib.Omega.{arith}
-use lib.ListN.{get_or}
-use lib.Dec.{eqb}
 use borrow.Author.Tests.{eq-eqb, ne_eqb}
 use Rattle.keys.proofs.Cases.{decide}
 use Rattle.list.specs.First.{first_refusal}
 use Rattle.list.proofs.FirstRefusal.{first_no_list, first_good}
 use Rattle.definitions.specs.Refusal.{bad_settings, no_list}
-use Rattle.definitions.specs.BitStrings.{leaf_value, inner_value}
+use Rattle.definitions.specs.BitStrings.{leaf_value}
 use Rattle.laws.proofs.First.{this, later, holds_first, none_first}
 use Rattle.bit_strings.specs.Steps.{next_bit}
 use Rattle.bit_strings.specs.Strings.{early_refusal}

@@ -1,6 +1,6 @@
 -- The next bit of a string and the tests on the bits that come: what a bit that was read says of the string from its place on. Rests on the laws of
 -- lists.
-use Prim.Native.Nat.{ℕ, zero, suc, ◌+◌, ◌-◌, ◌≤◌, ◌<◌}
+use Prim.Native.Nat.{ℕ, suc, ◌+◌, ◌-◌, ◌≤◌, ◌<◌}
 use mathlib.Core.Path.{◌≡◌, refl, sym, ap, ◌∙◌}
 use mathlib.Core.Bool.{Bool, true, false, cond, not, beq, true≢false}
 use mir.Val.{bool_byte}

@@ -1,7 +1,7 @@
 -- One string of a list, bit by bit and byte by byte: what the code picks is the string of the definitions. Rests on the laws of lists.
-use Prim.Native.Nat.{ℕ, zero, suc, ◌+◌, ◌*◌, ◌/◌, ◌%◌, ◌^◌, ◌≤◌, ◌<◌}
+use Prim.Native.Nat.{ℕ, ◌+◌, ◌*◌, ◌/◌, ◌%◌, ◌^◌, ◌<◌}
 use mathlib.Core.Path.{◌≡◌, refl, sym, ap, ◌∙◌}
-use mathlib.Core.Bool.{Bool, true, false, cond, not}
+use mathlib.Core.Bool.{Bool, true, false, cond}
 use mathlib.Core.List.{List, [], ◌∷◌}
 use native.Mathlib.Nat.{mod-lt}
 use native.Mathlib.Numerals.{add-one}
@@ -10,8 +10,8 @@ use lib.ListN.{length, get_or, drop}
 use lib.Seq.{drop-cons, drop-length}
 use lib.Dec.{eqb}
 use lib.Arith.{mod-mul}
-use borrow.Author.Tests.{eq-eqb, ne_eqb, eqb-true, not-true, not-false}
-use Rattle.keys.proofs.Cases.{decide, same_test, and_left, and_right, and_both}
+use borrow.Author.Tests.{eq-eqb, ne_eqb, eqb-true}
+use Rattle.keys.proofs.Cases.{same_test, and_left, and_right, and_both}
 use Rattle.definitions.specs.Bits.{has_slot}
 use Rattle.definitions.specs.BitStrings.{is_inner}
 use Rattle.bit_strings.specs.Strings.{bit_of, string_of, Picked}

@@ -59,6 +59,5 @@ pub fn equal_siblings(nodes: &[u8], leaves: &[u8], i: usize, j: usize) -> bool
     requires { (i < 10000000) × (j < 10000000) }
     ensures { result ≡ four_equal (drop i (bits_in nodes.now)) (drop j (bits_in leaves.now)) }
 {
-    begins_four(nodes, i, true)
-        && (begins_four(leaves, j, false) || begins_four(leaves, j, true))
+    begins_four(nodes, i, true) && (begins_four(leaves, j, false) || begins_four(leaves, j, true))
 }

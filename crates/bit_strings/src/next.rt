@@ -26,14 +26,7 @@ pub struct AfterBlock {
 }
 
 // Past one block. There is no way on where the bits end early, go too deep or show four equal leaf siblings.
-pub fn pass(
-    m: u32,
-    key: u32,
-    nodes: &[u8],
-    leaves: &[u8],
-    i: usize,
-    j: usize,
-) -> Option<AfterBlock>
+pub fn pass(m: u32, key: u32, nodes: &[u8], leaves: &[u8], i: usize, j: usize) -> Option<AfterBlock>
     requires { (m ≤ 10) × (key < 5 ^ m) × (i ≤ key) × (j ≤ i) }
     ensures { result ≡ passed m key (drop i (bits_in nodes.now)) (drop j (bits_in leaves.now)) }
 {

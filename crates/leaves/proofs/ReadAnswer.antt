@@ -1,5 +1,5 @@
 -- The answers of reading leaves: whether so many leaves are a delivery, the rows of its table of refusals, and what is given and left. Rests on
--- laws' First and ListOf.
+-- laws' First.
 use Prim.Native.Nat.{ℕ, ◌≤◌, ◌<◌}
 use mathlib.Core.Path.{◌≡◌, sym, ◌∙◌, ap}
 use mathlib.Core.Bool.{true, false, cond}

@@ -114,9 +114,9 @@ trait Block {
         ensures { NodeFilled bits.now at wide place SIDE raster.old raster.new result };
 }
 
-struct Two;
+struct TwoByTwo;
 
-impl Block for Two {
+impl Block for TwoByTwo {
     ghost SIDE = { 2 };
 
     const SIDE: usize = 2;
@@ -131,9 +131,9 @@ impl Block for Two {
     }
 }
 
-struct Four;
+struct FourByFour;
 
-impl Block for Four {
+impl Block for FourByFour {
     ghost SIDE = { 4 };
 
     const SIDE: usize = 4;
@@ -143,7 +143,7 @@ impl Block for Four {
     }
 
     fn fill_node(bits: &[u32], raster: &mut [u8], wide: usize, at: usize, place: usize) -> usize {
-        fill_quadrants::<Two>(bits, raster, wide, at, place)
+        fill_quadrants::<TwoByTwo>(bits, raster, wide, at, place)
     }
 }
 
@@ -196,7 +196,7 @@ fn fill_node(
             fill_square(raster, wide, corner, half, feature_of(found));
             next += 1;
         } else if half == 8 {
-            next = fill_quadrants::<Four>(bits, raster, wide, next, corner);
+            next = fill_quadrants::<FourByFour>(bits, raster, wide, next, corner);
         } else {
             next = fill_node(bits, raster, wide, next, corner, half);
         }

@@ -1,4 +1,4 @@
--- `build::build_checked` meets its contract: too little room leaves all as it was, and else the records below the root and the root's own are the
+-- `build::build_checked`: too little room leaves all as it was, and else the records below the root and the root's own are the
 -- whole list.
 use Prim.Native.Nat.{ℕ, min, ◌^◌, ◌≤◌, ◌<◌}
 use mathlib.Core.Bool.{Bool, true}

@@ -1,7 +1,7 @@
 -- `bits::begins_four`: each turn looks at one bit more. Rests on NextBit.
 use Rattle.std.proofs.Common.{sym, ◌∙◌, arith}
 use Rattle.definitions.specs.BitStrings.{bits_in}
-use Rattle.bit_strings.proofs.NextBit.{begins_turn, begins_stop, begins_end, begins_start, no_digit, differ, agree}
+use Rattle.bit_strings.proofs.NextBit.{begins_turn, begins_stop, begins_end, no_digit, differ, agree}
 use Rattle.bit_strings.proofs.bits.begins_four.Goals as goal
 
 pub returns-in_default : goal.returns-in_default

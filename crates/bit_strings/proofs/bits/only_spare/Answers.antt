@@ -1,11 +1,10 @@
 -- `bits::only_spare`: none left, a byte too many, or the rest of the last byte.
-use Rattle.bit_strings.proofs.Bytes.{power_positive, none_there, spare_none, spare_byte, spare_more, spare_last}
+use Rattle.bit_strings.proofs.Bytes.{none_there, spare_none, spare_byte, spare_more, spare_last}
 use lib.ListN.{get_or}
 use lib.Dec.{eqb}
 use mathlib.Core.Path.{sym, ◌∙◌, ap}
 use Prim.Native.Nat.{◌/◌, ◌%◌}
 use native.Mathlib.Omega.{arith}
-use borrow.Author.Rules.{rules}
 use Rattle.bit_strings.proofs.bits.only_spare.Goals as goal
 
 pub returns-then-bytes-k : goal.returns-then-bytes-k

@@ -1,7 +1,7 @@
 -- `check::count_records`: each turn passes one block more, and past the last what is left over decides. Rests on Counting.
 use Rattle.std.proofs.Common.{sym, ◌∙◌, arith}
 use Rattle.bit_strings.proofs.Counting.{counting_start, counting_stuck, counting_on, counting_turn, counting_nodes, counting_leaves, counting_end}
-use Rattle.bit_strings.proofs.NextBit.{digit_most, byte_digit}
+use Rattle.bit_strings.proofs.NextBit.{byte_digit}
 use Rattle.bit_strings.proofs.check.count_records.Goals as goal
 
 pub loop-key-init : goal.loop-key-init

@@ -2,7 +2,7 @@
 use Rattle.std.proofs.Common.{sym, ◌∙◌, ap, arith}
 use Rattle.bit_strings.specs.Steps.{bit_told}
 use Rattle.bit_strings.proofs.NextBit.{byte_digit, found_some}
-use Rattle.bit_strings.proofs.Filling.{filling_start, next, filling_turn, filling_end}
+use Rattle.bit_strings.proofs.Filling.{filling_start, next, filling_turn}
 use Rattle.bit_strings.proofs.fill.fill.Goals as goal
 
 pub loop-i-init : goal.loop-i-init

@@ -3,7 +3,6 @@ use Rattle.bit_strings.proofs.Passing.{key_leaf, key_inner}
 use Rattle.keys.proofs.LastZeros.{keys_most}
 use Rattle.keys.proofs.Powers.{five_le}
 use native.Mathlib.Omega.{arith}
-use borrow.Author.Rules.{rules}
 use Rattle.bit_strings.proofs.next.key_after.Goals as goal
 
 pub overflow_add-result : goal.overflow_add-result

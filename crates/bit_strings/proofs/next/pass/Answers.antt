@@ -1,5 +1,5 @@
 -- `next::pass`: each way out is one of the model. Rests on Stepping and NextBit.
-use Rattle.std.proofs.Common.{◌≡◌, cond, drop, sym, ◌∙◌, ap, arith}
+use Rattle.std.proofs.Common.{cond, drop, sym, ◌∙◌, ap, arith}
 use Rattle.keys.proofs.LastZeros.{keys_most}
 use Rattle.keys.proofs.Powers.{five_le}
 use Rattle.definitions.specs.BitStrings.{bits_in, four_equal}

@@ -1,5 +1,5 @@
 -- `pack::next_bit`: a record without a bit changes nothing of the string. Rests on Packing.
-use Rattle.std.proofs.Common.{refl, arith}
+use Rattle.std.proofs.Common.{arith}
 use Rattle.bit_strings.proofs.Packing.{pick_skip, pick_bit, pick_end}
 use Rattle.bit_strings.proofs.pack.next_bit.Goals as goal
 

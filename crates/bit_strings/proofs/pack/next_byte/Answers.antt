@@ -1,7 +1,7 @@
 -- `pack::next_byte`: one bit more is in the byte. Rests on Bitwise.
-use Rattle.std.proofs.Common.{◌∙◌, arith}
+use Rattle.std.proofs.Common.{arith}
 use Rattle.bit_strings.proofs.NextBit.{byte_digit}
-use Rattle.bit_strings.proofs.Bitwise.{making_start, fits_byte, making_turn, byte_small, making_end}
+use Rattle.bit_strings.proofs.Bitwise.{making_turn, making_end}
 use Rattle.bit_strings.proofs.pack.next_byte.Goals as goal
 
 pub loop-count-preserved : goal.loop-count-preserved

@@ -1,6 +1,6 @@
 -- `pack::pack`: one byte more is written. Rests on Bitwise.
 use Rattle.std.proofs.Common.{arith}
-use Rattle.bit_strings.proofs.Bitwise.{written_start, written_turn, written_end}
+use Rattle.bit_strings.proofs.Bitwise.{written_turn, written_end}
 use Rattle.bit_strings.proofs.pack.pack.Goals as goal
 
 pub loop-k-preserved : goal.loop-k-preserved

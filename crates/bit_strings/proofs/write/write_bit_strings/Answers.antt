@@ -1,13 +1,10 @@
 -- `write::write_bit_strings`: each way out answers what the definition does there. Rests on WriteAnswers.
-use Rattle.std.proofs.Common.{true, false, ◌+◌, ◌-◌, ◌/◌, ◌≤◌, length, sym, ◌∙◌, ap, arith}
-use borrow.Author.Tests.{ltb-false}
-use lib.Dec.{ltb}
-use Rattle.keys.proofs.Cases.{neither_left, neither_right}
+use Rattle.std.proofs.Common.{true, false, ◌+◌, ◌-◌, ◌/◌, ◌∙◌, ap}
 use Rattle.definitions.specs.Buffer.{over}
 use Rattle.definitions.specs.BitStrings.{packed_in}
 use Rattle.definitions.proofs.Refused.{refusal_some}
 use Rattle.bit_strings.specs.Strings.{string_of}
-use Rattle.bit_strings.proofs.WriteAnswers.{refused_early, roomy, too_short, all_written}
+use Rattle.bit_strings.proofs.WriteAnswers.{refused_early, too_short, all_written}
 use Rattle.bit_strings.proofs.write.write_bit_strings.Goals as goal
 
 pub returns-in-Err : goal.returns-in-Err

@@ -1,4 +1,4 @@
--- `lay::lay_list` meets its contract: the records below the root and the root's own are the list.
+-- `lay::lay_list`: the records below the root and the root's own are the list.
 use native.Mathlib.Omega.{arith}
 use Rattle.definitions.specs.Read.{paired}
 use Rattle.definitions.specs.Leaves.{picture_of_leaves}

@@ -1,4 +1,4 @@
--- `lay::lay_quad` meets its contract: the next leaf is the block, or four pixels and then their own records.
+-- `lay::lay_quad`: the next leaf is the block, or four pixels and then their own records.
 use Prim.Native.Nat.{ℕ, ◌+◌, ◌^◌, ◌≤◌, ◌<◌}
 use mathlib.Core.List.{List}
 use mathlib.Core.Path.{◌≡◌, refl}

@@ -1,4 +1,4 @@
--- `calls::part` meets its contract: the span that was found lies within the key slice, and names the part and where it starts.
+-- `calls::part`: the span that was found lies within the key slice, and names the part and where it starts.
 use Prim.Native.Nat.{◌+◌, ◌*◌}
 use mathlib.Core.Path.{refl, ap, ◌∙◌}
 use native.Mathlib.Nat.{add_comm}

@@ -1,4 +1,4 @@
--- `fill::fill_pixel` meets its contract: one store fills a square of one pixel.
+-- `fill::fill_pixel`: one store fills a square of one pixel.
 use Rattle.read.proofs.Filling.{one_place, one_row}
 use Rattle.read.proofs.fill.fill_pixel.Goals as goal
 

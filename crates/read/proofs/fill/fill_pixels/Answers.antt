@@ -1,4 +1,4 @@
--- `fill::fill_pixels` meets its contract: the four records after the node's own are pixels, and each is filled.
+-- `fill::fill_pixels`: the four records after the node's own are pixels, and each is filled.
 use native.Mathlib.Omega.{arith}
 use Rattle.read.proofs.FourPixels.{turn_nw, turn_sw, turn_se, four_filled, four_there, leaf_ne, leaf_sw, leaf_se}
 use Rattle.read.proofs.fill.fill_pixels.Goals as goal

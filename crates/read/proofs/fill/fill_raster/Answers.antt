@@ -1,4 +1,4 @@
--- `fill::fill_raster` meets its contract: the bitstrings show the root, and its square painted is the picture.
+-- `fill::fill_raster`: the bitstrings show the root, and its square painted is the picture.
 use Prim.Native.Nat.{ℕ, ◌+◌, ◌*◌, ◌/◌, ◌%◌, ◌^◌}
 use mathlib.Core.Path.{◌≡◌, refl, sym, ◌∙◌, ap}
 use mathlib.Core.Bool.{true, false}
