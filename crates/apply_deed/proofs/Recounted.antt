@@ -17,6 +17,9 @@ use Rattle.definitions.specs.Area.{summary_level, summary_height, summary_length
 use Rattle.laws.proofs.Pixels.{Agree}
 use Rattle.laws.proofs.SummaryOf.{summary-length, summary_block}
 use Rattle.list.specs.Own.{OwnList, shown_by}
+use Rattle.list.specs.declared.accepted_list.Accepted.{Accepted}
+use Rattle.list.specs.Taken.{Taken}
+use Rattle.list.proofs.Taken.{taken_picture}
 use Rattle.summary.proofs.CountedUpTo.{same_counts}
 use Rattle.deeds.specs.Step.{Step, step_over}
 use Rattle.deeds.specs.Deed.{SameBefore}
@@ -69,6 +72,21 @@ apart_passed {m} {b} {block} {met} {t} {t'} {log_keys} {log_values} h is same fo
 -- any other is counted
 pub met_counted : {t : Step} {m b : ℕ} → PassedBy t m b true
 met_counted = record { apart = λ e. absurd (true≢false e) }
+
+-- of a list that is taken from the slices
+pub outdated_taken : {t : Step} {m s : ℕ} {keys bits : List ℕ} {n : ℕ} {summary : List ℕ} {list : Accepted} → Taken m keys bits n list → StepOutdated t m s keys bits n summary
+    → StepOutdated t list.m s list.keys.now list.bits.now (length list.keys.now) summary
+outdated_taken {t} {m} {s} {list = list} taken o = record {
+  deep = list.deepest;
+  few = o.few;
+  own = list.own;
+  before = o.before;
+  counts = o.counts ∙ ap (λ k. summary_of k s o.before) (sym taken.map);
+  outside = λ row column h j out.
+      let in_row : row < 2 ^ m = rw taken.map at h in
+      let in_column : column < 2 ^ m = rw taken.map at j in
+      ap (λ p. p row column) (taken_picture taken) ∙ o.outside row column in_row in_column out;
+}
 
 -- by another name of the map
 pub passed_map : {t : Step} {m m' b : ℕ} {meets : Bool} → m ≡ m' → PassedBy t m b meets → PassedBy t m' b meets

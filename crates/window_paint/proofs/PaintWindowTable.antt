@@ -1,7 +1,7 @@
 -- The table of painting a window: the rows about room, one law for each way out of the code that tests them, and what a call that is not refused may rely on
 -- and gives. Rests on EditCallTables and the laws of edits.
 use Prim.Native.Nat.{ℕ, ◌+◌, ◌≤◌, ◌<◌}
-use mathlib.Core.Path.{◌≡◌, refl, sym, ap, ◌∙◌}
+use mathlib.Core.Path.{◌≡◌, refl, sym, ap, ap₂, subst, ◌∙◌}
 use mathlib.Core.Bool.{true, false, not}
 use mathlib.Core.List.{List, [], ◌∷◌}
 use native.Mathlib.Omega.{arith}
@@ -22,46 +22,41 @@ use Rattle.laws.proofs.Edits.{SheetPassed, EditPassed, rest_decides, edit_passed
 use Rattle.walk.proofs.Lies.{accepted_window}
 use Rattle.replace.specs.Putting.{Replaced}
 use Rattle.edit.specs.PaintCall.{Relogged}
-use Rattle.window_paint.specs.WindowLogging.{FreshGroup}
-use Rattle.window_paint.specs.PaintWindowCall.{Fillable, window_room_refusal, WindowDecided}
-use Rattle.window_paint.specs.declared.paint_window.WindowPlan.{WindowPlan}
+use Rattle.window_paint.specs.WindowLogging.{Coverable, FreshGroup}
+use Rattle.window_paint.specs.PaintWindowCall.{Fillable, PaintingOf, window_room_refusal}
+use Rattle.window_paint.specs.Searching.{FreshGroupOf}
+use Rattle.list.specs.declared.accepted_list.Accepted.{Accepted}
+use Rattle.list.specs.Taken.{Taken}
+use Rattle.list.proofs.Taken.{taken_records}
 use Rattle.edit.proofs.EditCallTables.{passed_settings, passed_own, passed_used}
 
--- a refusal decides
-pub window_refuses : {k refusal m : ℕ} {w : Window} {r : WindowPlan} → r.refusal ≡ k → k ≡ refusal → (k ≡ 0 → ⊥) → WindowDecided refusal m w r
-window_refuses e g not-zero = record { refusal_is = e ∙ g; number_is = λ z. absurd (not-zero (sym e ∙ z)) }
-
--- the same by another name of the refusal
-pub window_decided_as : {refusal refusal' m : ℕ} {w : Window} {r : WindowPlan} → refusal ≡ refusal' → WindowDecided refusal m w r → WindowDecided refusal' m w r
-window_decided_as e d = record { refusal_is = d.refusal_is ∙ e; number_is = d.number_is }
-
 -- the rows about room: the first that holds
-module _ (m : ℕ) (l : List Record) (keys bits log_keys log_values : List ℕ) (in_force : ℕ) (w : Window) (f : ℕ) where
+module _ (m : ℕ) (l : List Record) (list_room log_room in_force : ℕ) (w : Window) (f : ℕ) where
   -- the number of places used with the group
   module _ (logged : ℕ) (logged-is : logged ≡ in_force + length (group_gained m l w f)) where
     -- 10
-    pub log_full : room log_keys log_values < logged → 10 ≡ window_room_refusal m l keys bits log_keys log_values in_force w f
+    pub log_full : log_room < logged → 10 ≡ window_room_refusal m l list_room log_room in_force w f
     unfolding window_room_refusal
-    log_full h = sym (holds_first (this (lt-ltb (room log_keys log_values) (in_force + length (group_gained m l w f)) (omega arith)) refl))
+    log_full h = sym (holds_first (this (lt-ltb log_room (in_force + length (group_gained m l w f)) (omega arith)) refl))
 
-    module _ (log-fits : logged ≤ room log_keys log_values) where
-      log_passes : ltb (room log_keys log_values) (in_force + length (group_gained m l w f)) ≡ false
-      log_passes = le-ltb (room log_keys log_values) (in_force + length (group_gained m l w f)) (omega arith)
+    module _ (log-fits : logged ≤ log_room) where
+      log_passes : ltb log_room (in_force + length (group_gained m l w f)) ≡ false
+      log_passes = le-ltb log_room (in_force + length (group_gained m l w f)) (omega arith)
 
       -- 9
-      pub list_full : leb (length (filled m l w f)) (room keys bits) ≡ false → 9 ≡ window_room_refusal m l keys bits log_keys log_values in_force w f
+      pub list_full : leb (length (filled m l w f)) list_room ≡ false → 9 ≡ window_room_refusal m l list_room log_room in_force w f
       unfolding window_room_refusal
-      list_full h = sym (holds_first (later log_passes (this (lt-ltb (room keys bits) (length (filled m l w f)) (leb-false _ _ h)) refl)))
+      list_full h = sym (holds_first (later log_passes (this (lt-ltb list_room (length (filled m l w f)) (leb-false _ _ h)) refl)))
 
       -- neither
-      pub room_enough : leb (length (filled m l w f)) (room keys bits) ≡ true → 0 ≡ window_room_refusal m l keys bits log_keys log_values in_force w f
+      pub room_enough : leb (length (filled m l w f)) list_room ≡ true → 0 ≡ window_room_refusal m l list_room log_room in_force w f
       unfolding window_room_refusal
-      room_enough h = sym (none_first _ (log_passes, (le-ltb (room keys bits) (length (filled m l w f)) (leb-true _ _ h), tt)))
+      room_enough h = sym (none_first _ (log_passes, (le-ltb list_room (length (filled m l w f)) (leb-true _ _ h), tt)))
 
 module _ {m s : ℕ} {keys bits : List ℕ} {n : ℕ} {summary log_keys log_values : List ℕ} {used in_force : ℕ} (w : Window) (f : ℕ)
     (p : SheetPassed (as_lent m s keys bits n summary log_keys log_values used in_force)) (good : is_window m w ≡ true) (small : f < s) where
   -- past 7 the rows about room decide
-  pub window_room : window_room_refusal m (records_of keys bits n) keys bits log_keys log_values in_force w f
+  pub window_room : window_room_refusal m (records_of keys bits n) (room keys bits) (room log_keys log_values) in_force w f
       ≡ edit_refusal (paint_window m s keys bits n summary log_keys log_values used in_force w f)
   unfolding window_room_refusal filled
   window_room =
@@ -83,11 +78,27 @@ module _ {m s : ℕ} {keys bits : List ℕ} {n : ℕ} {summary log_keys log_valu
 pub record WindowPassed (m s : ℕ) (keys bits : List ℕ) (n : ℕ) (summary log_keys log_values : List ℕ) (used in_force : ℕ) (w : Window) (f : ℕ) : Type 0 where
   pub none : edit_refusal (paint_window m s keys bits n summary log_keys log_values used in_force w f) ≡ 0
 
-pub not_refused : {m s : ℕ} {keys bits : List ℕ} {n : ℕ} {summary log_keys log_values : List ℕ} {used in_force : ℕ} {w : Window} {f : ℕ} {r : WindowPlan}
-    → WindowDecided (edit_refusal (paint_window m s keys bits n summary log_keys log_values used in_force w f)) m w r
-    → r.refusal ≡ 0
+pub window_passed : (m s : ℕ) (keys bits : List ℕ) (n : ℕ) (summary log_keys log_values : List ℕ) (used in_force : ℕ) (w : Window) (f : ℕ)
+    → 0 ≡ edit_refusal (paint_window m s keys bits n summary log_keys log_values used in_force w f)
     → WindowPassed m s keys bits n summary log_keys log_values used in_force w f
-not_refused decided e = record { none = sym decided.refusal_is ∙ e }
+window_passed m s keys bits n summary log_keys log_values used in_force w f told = record { none = sym told }
+
+-- what is asked of two slices, of the list that is taken from them
+module _ {m : ℕ} {keys bits : List ℕ} {n : ℕ} {list : Accepted} (t : Taken m keys bits n list) where
+  covers_taken : {w : Window} → Coverable m keys bits n w → Coverable list.m list.keys.now list.bits.now (length list.keys.now) w
+  covers_taken a = record { deep = list.deepest; own = list.own; low = a.low; narrow = a.narrow }
+
+  pub painting_taken : {w : Window} {f : ℕ} → Fillable m keys bits n w f → PaintingOf list w f
+  painting_taken a = record { list = covers_taken a.list; slot = a.slot }
+
+  pub group_taken : {w : Window} {f number start used : ℕ} {log_keys log_values : List ℕ} → FreshGroup m keys bits n w f number start used log_keys log_values
+      → FreshGroupOf list w f number start used log_keys log_values
+  group_taken {w} {f} {number} {start} {used} {log_keys} {log_values} a = record {
+    list = covers_taken a.list;
+    number_is = a.number_is ∙ ap (λ k. length (largest_blocks k w)) (sym t.map);
+    fits = subst (λ l. start + length l ≤ room log_keys log_values) (ap₂ (λ k l. group_gained k l w f) (sym t.map) (sym (taken_records t))) a.fits;
+    there = a.there;
+  }
 
 module _ {m s : ℕ} {keys bits : List ℕ} {n : ℕ} {summary log_keys log_values : List ℕ} {used in_force : ℕ} {w : Window} {f : ℕ}
     (passed : WindowPassed m s keys bits n summary log_keys log_values used in_force w f) where

@@ -11,7 +11,7 @@ use Rattle.definitions.specs.Edit.{fill_window}
 use Rattle.definitions.specs.Area.{summary_of}
 use Rattle.definitions.specs.declared.Window.{Window}
 use Rattle.definitions.specs.Calls.PaintWindow.{filled_picture, filled}
-use Rattle.list.specs.Own.{shown_by}
+use Rattle.list.specs.Own.{OwnList, shown_by}
 use Rattle.replace.specs.Putting.{Replaced}
 use Rattle.deeds.specs.Step.{step_over}
 use Rattle.deeds.specs.Deed.{window_step, Painting}
@@ -37,6 +37,12 @@ module _ (m : ℕ) (keys bits : List ℕ) (n : ℕ) (w : Window) (f : ℕ) where
       → Replaced n (filled m (records_of keys bits n) w f) keys bits keys' bits' after
   unfolding step_over fill_window filled
   change_fills c = record { length-is = c.length-is; keys_are = c.keys_are; values_are = c.bits_are }
+
+-- the filled list is a list
+pub window_own : {m n : ℕ} {w : Window} {f : ℕ} {keys bits keys' bits' : List ℕ} {after : ℕ} → Fillable m keys bits n w f
+    → Replaced n (filled m (records_of keys bits n) w f) keys bits keys' bits' after → OwnList m keys' bits' after
+unfolding filled
+window_own {m} {n} {w} {f} {keys} {bits} a made = new_own m (filled_picture m (records_of keys bits n) w f) made
 
 -- the summary from before is right where the step touches nothing
 module _ (s : ℕ) {m n : ℕ} {w : Window} {f : ℕ} {keys bits keys' bits' : List ℕ} {after : ℕ} (a : Fillable m keys bits n w f)

@@ -1,37 +1,39 @@
 -- How a block lies to a window, as it is told: by the walk's tests of a block. Rests on LargestBlocks.
-use Prim.Native.Nat.{ℕ, zero, suc, ◌+◌, ◌-◌, ◌^◌, ◌<◌}
-use mathlib.Core.Path.{◌≡◌, sym, ◌∙◌}
+use Prim.Native.Nat.{ℕ, zero, suc, ◌+◌, ◌-◌, ◌^◌, ◌≤◌, ◌<◌}
+use mathlib.Core.Path.{◌≡◌, refl, sym, ◌∙◌}
 use mathlib.Core.Bool.{true, false, true≢false}
-use mathlib.Core.List.{List}
 use native.Mathlib.Omega.{arith}
 use Rattle.keys.proofs.Cases.{decide}
 use Rattle.keys.proofs.Interval.{within}
 use Rattle.keys.proofs.Powers.{two_le, two_pos}
-use Rattle.keys.specs.Child.{InMap}
+use Rattle.keys.specs.Child.{InMap, block_square}
 use Rattle.keys.specs.declared.block.TreeBlock.{TreeBlock}
 use Rattle.definitions.specs.Window.{in_window, is_inside}
 use Rattle.definitions.specs.declared.Window.{Window}
 use Rattle.laws.proofs.Pixels.{every_to, every_from}
 use Rattle.laws.proofs.WindowScan.{inside_window}
-use Rattle.walk.specs.Walk.{Small, is_within, is_apart}
+use Rattle.walk.specs.Walk.{Small, is_within, is_apart, square_spot, lie_of}
+use Rattle.walk.specs.declared.lying.Lie.{Lie}
+use Rattle.keys.specs.declared.Square.{Square}
 use Rattle.walk.specs.declared.Spot.{Spot}
 use Rattle.walk.proofs.Lies.{apart_pixel, within_pixel, not_apart, inside_within}
-use Rattle.window_paint.specs.WindowLogging.{Placed, Lying, Coverable}
+use Rattle.window_paint.specs.WindowLogging.{Placed, Lying}
+use Rattle.window_paint.specs.Searching.{SmallWindow}
 use Rattle.walk.specs.declared.lying.Lie.TheVariants.{Apart, Within, Cut}
 use Rattle.laws.proofs.LargestBlocks.{covered_one}
 use Rattle.window_paint.proofs.WindowEntries.{largest_none}
 
 -- a block's place as the walk has it
 abbrev spot_of : (b : TreeBlock) (side : ℕ) → Spot
-spot_of b side = record { key = b.key; row = b.row; column = b.column; side = side; step = 0 }
+spot_of b side = record { key = 0; row = b.row; column = b.column; side = side; step = 0 }
 
 -- a block and a window of the map have small numbers
-pub placed : {m : ℕ} {keys bits : List ℕ} {n : ℕ} {w : Window} {b : TreeBlock} → Coverable m keys bits n w → InMap m b → Placed w b
-placed a b =
+pub placed : {m : ℕ} {w : Window} {b : TreeBlock} → m ≤ 10 → SmallWindow w → InMap m b → Placed w b
+placed deep a b =
     let i = within b in
-    let two = two_le 10 a.deep in
+    let two = two_le 10 deep in
     record {
-      deep = omega (arith, i.height, a.deep);
+      deep = omega (arith, i.height);
       rows = omega (arith, i.bottom);
       columns = omega (arith, i.right);
       low = a.low;
@@ -69,3 +71,17 @@ module _ {w : Window} {b : TreeBlock} {side : ℕ} (a : Placed w b) (e : side �
       higher : (k : ℕ) → side ≡ 2 ^ k → 0 < k
       higher zero e = let j = not_apart (spot_of b side) w h in absurd (true≢false (sym (inside_within (spot_of b side) w (omega arith)) ∙ i))
       higher (suc k) e = omega arith
+
+-- as the walk tells it of the block's pixels
+module _ {w : Window} {b : TreeBlock} (a : Placed w b) {q : Square} (e : q ≡ block_square b) where
+  pub small_told : Small (square_spot q) w
+  small_told = rw e (small a refl)
+
+  pub lies_told : {lie : Lie} → lie ≡ lie_of q w → Lying w b lie
+  unfolding lie_of
+  lies_told f =
+      rw (f, e)
+      (decide (is_apart (square_spot (block_square b)) w)
+      (λ t. rw t (lies_apart a refl t))
+      (λ t. rw t
+      (decide (is_within (square_spot (block_square b)) w) (λ i. rw i (lies_within a refl i)) (λ i. rw i (lies_cut a refl t i)))))

@@ -11,32 +11,41 @@ use Rattle.keys.proofs.BlockChild.{one_higher}
 use Rattle.keys.proofs.Interval.{within}
 use Rattle.keys.proofs.Valid.{block_valid}
 use Rattle.definitions.specs.Read.{records_of}
-use Rattle.definitions.specs.declared.Window.{Window}
 use Rattle.list.specs.Own.{BlockIn}
 use Rattle.list.specs.Sorted.{Near}
-use Rattle.list.proofs.Fuller.{near_later as near-found}
+use Rattle.list.proofs.Fuller.{listed_numbers, inside_numbers, near_later as near-found}
 use Rattle.walk.proofs.Asked.{near_later}
-use Rattle.edit.specs.Content.{former_of}
-use Rattle.edit.specs.declared.logging.Former.{Former}
-use Rattle.window_paint.specs.WindowLogging.{Coverable, BlockFrom}
+use Rattle.list.specs.declared.accepted_list.Accepted.{Accepted}
+use Rattle.list.proofs.Taken.{block_listed}
+use Rattle.definitions.specs.List.{Record}
+use Rattle.definitions.specs.Standing.{place_of, standing_of}
+use Rattle.definitions.specs.declared.Standing.{Standing}
+use Rattle.definitions.specs.declared.Standing.TheVariants.{Listed, Inside}
+use Rattle.window_paint.specs.WindowLogging.{place_told}
+use Rattle.window_paint.specs.Searching.{NearIn, BlockSought}
 
 -- a block of the map, as a search by its key asks for it
-pub block_from : {m : ℕ} {keys bits : List ℕ} {n from : ℕ} {w : Window} (b : TreeBlock) → Coverable m keys bits n w → InMap m b → Near keys n from b.key
-    → BlockFrom m keys bits n b from
-block_from b list i near =
+pub block_from : (list : Accepted) {from : ℕ} (b : TreeBlock) → InMap list.m b → NearIn list from b.key → BlockSought list b from
+block_from list b i near =
     let is = block_valid i in
     let w = within i in
+    let deep = list.deepest in
     record {
-      block = record { deepest = list.deep; own = list.own; valid = is.valid };
-      low = omega (arith, w.height, list.deep);
+      block = block_listed list b.key is.valid;
+      low = omega (arith, w.height);
       height_is = sym is.height;
       near = near;
     }
 
+-- a standing tells the place
+standing_place : (m κ : ℕ) (l : List Record) (standing : Standing) → standing ≡ standing_of m κ l → place_told standing ≡ place_of κ l
+standing_place m κ l (Listed place records) e = (listed_numbers m κ l place records (sym e)).1
+standing_place m κ l (Inside place leaf level) e = (inside_numbers m κ l place leaf level (sym e)).1
+
 -- where it was found serves for what comes after it
-pub found_after : {m : ℕ} {keys bits : List ℕ} {n κ : ℕ} {former : Former} → BlockIn m keys bits n κ → former ≡ former_of m κ (records_of keys bits n)
-    → (step : ℕ) → Near keys n former.place (κ + step)
-found_after {κ = κ} b e step = near-found b _ (ap (λ x. x.place) e) (κ + step) (omega arith)
+pub found_after : {m : ℕ} {keys bits : List ℕ} {n κ : ℕ} {standing : Standing} {place : ℕ} → BlockIn m keys bits n κ → standing ≡ standing_of m κ (records_of keys bits n)
+    → place ≡ place_told standing → (step : ℕ) → Near keys n place (κ + step)
+found_after {m} {keys} {bits} {n} {κ} {standing} b e f step = near-found b _ (f ∙ standing_place m κ (records_of keys bits n) standing e) (κ + step) (omega arith)
 
 module _ {keys : List ℕ} {n place : ℕ} (b : TreeBlock) where
   -- where it is not looked for, so does the place that was had

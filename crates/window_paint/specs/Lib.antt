@@ -1,2 +1,3 @@
 pub mod WindowLogging
+pub mod Searching
 pub mod PaintWindowCall

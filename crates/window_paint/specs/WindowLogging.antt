@@ -9,6 +9,8 @@ use Rattle.definitions.specs.List.{Record}
 use Rattle.definitions.specs.Read.{room, records_of}
 use Rattle.definitions.specs.Window.{is_inside, largest_from, largest_blocks}
 use Rattle.definitions.specs.declared.Window.{Window}
+use Rattle.definitions.specs.declared.Standing.{Standing}
+use Rattle.definitions.specs.declared.Standing.TheVariants.{Listed, Inside}
 use Rattle.definitions.specs.Log.{entries_of}
 use Rattle.definitions.specs.Calls.PaintWindow.{group_gained}
 use Rattle.list.specs.Own.{OwnList, BlockIn, shown_by}
@@ -47,6 +49,11 @@ pub record BlockFrom (m : ℕ) (keys bits : List ℕ) (n : ℕ) (b : TreeBlock) 
   pub low : b.height ≤ 10
   pub height_is : b.height ≡ height_of m b.key
   pub near : Near keys n from b.key
+
+-- the place that a standing tells
+abbrev pub place_told : Standing → ℕ
+place_told (Listed place records) = place
+place_told (Inside place around level) = place
 
 -- the number of the blocks, and the places that their entries take, whatever they are painted with
 pub record NeededFor (m : ℕ) (p : Picture) (blocks : List ℕ) (number places : ℕ) : Type 0 where

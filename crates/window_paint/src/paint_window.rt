@@ -1,69 +1,50 @@
 // Painting a window as one step (specification S10.2). It is decided before anything is written, 10 and 9 on the end result.
-ghost use Rattle.std.specs.Prelude.{◌≡◌, ◌≤◌};
-ghost use Rattle.definitions.specs.Read.{room, records_of};
+ghost use Rattle.std.specs.Prelude.{◌≡◌, ◌≤◌, ◌<◌, ◌^◌, length, IfOk};
+ghost use Rattle.definitions.specs.Answered.{as_edited};
+ghost use Rattle.definitions.specs.Refused.{refusal_told};
+ghost use Rattle.definitions.specs.Window.{largest_blocks};
 ghost use Rattle.definitions.specs.Calls.Edit.{edit_refusal};
 ghost use Rattle.definitions.specs.Calls.PaintWindow.{paint_window, WindowPainted};
-ghost use Rattle.window_paint.specs.PaintWindowCall.{Fillable, window_room_refusal, WindowDecided};
+ghost use Rattle.list.specs.Taken.{records_listed};
+ghost use Rattle.window_paint.specs.PaintWindowCall.{PaintingOf, window_room_refusal};
 
 use crate::{filling, window_blocks, window_logging};
 use apply_deed::recount;
-use deeds::deed::{Deed, Doing};
+use definitions::Window;
+use definitions::answers::SheetCounts;
 use definitions::refusal::Refusal;
-use definitions::{Edited, Window};
 use edit::decision;
 use edit_log::group;
-use keys::{Key, block};
+use keys::block;
+use list::acceptance::taken;
+use list::accepted_list::Accepted;
 use walk::bounds;
 
-// The refusal; where it is 0, the number of entries that the group will have.
-#[derive(Clone, Copy)]
-pub struct WindowPlan {
-    pub refusal: u64,
-    pub number: u32,
-}
-
-fn refused(refusal: u64) -> WindowPlan
-    ensures { result.refusal ≡ refusal }
-{
-    WindowPlan { refusal, number: 0 }
-}
-
-// 10 and 9: the log has room for the group, and the list for what it becomes.
+// 10 and 9: the log has room for the group, and the list for what it becomes. Gives the number of entries that the group will have.
 fn decide_room(
-    m: u32,
-    keys: &[u32],
-    bits: &[u32],
-    n: usize,
-    log_keys: &[u32],
-    log_values: &[u32],
+    list: &Accepted<'_>,
+    list_room: usize,
+    log_room: usize,
     in_force: usize,
     window: Window,
     feature: u32,
-) -> WindowPlan
-    requires { (Fillable m keys.now bits.now n window feature) × (in_force ≤ room log_keys.now log_values.now) }
-    ensures { WindowDecided
-        (window_room_refusal m (records_of keys.now bits.now n) keys.now bits.now log_keys.now log_values.now in_force window feature)
-        m window result }
+) -> Result<u32, Refusal>
+    requires painting { PaintingOf list.now window feature }
+    requires log { (in_force ≤ log_room) × (log_room < 2 ^ 62) }
+    ensures told { refusal_told result ≡ window_room_refusal list.now.m (records_listed list.now) list_room log_room in_force window feature }
+    ensures number { IfOk result (λ number. number ≡ length (largest_blocks list.now.m window)) }
 {
-    let needed = window_blocks::need_below(m, keys, bits, n, window, block::root(m), 0);
-    let logged = in_force + group::places(needed.places);
-    if log_keys.len() < logged {
-        return refused(Refusal::LOG_ROOM);
+    let needed = window_blocks::need_below(list, window, block::root(list.m), 0);
+    if log_room < in_force + group::places(needed.places) {
+        return Err(Refusal::LogRoom);
     }
-    if log_values.len() < logged {
-        return refused(Refusal::LOG_ROOM);
+    if !filling::has_room(list, list_room, window, feature) {
+        return Err(Refusal::ListRoom);
     }
-    let fits = filling::has_room(m, keys, bits, n, log_keys, log_values, window, feature);
-    if !fits {
-        return refused(Refusal::LIST_ROOM);
-    }
-    WindowPlan {
-        refusal: 0,
-        number: needed.number,
-    }
+    Ok(needed.number)
 }
 
-// The first refusal that applies, or what the call goes by.
+// The first refusal that applies, or the number of entries that the group will have.
 fn decide(
     m: u32,
     s: u32,
@@ -77,26 +58,23 @@ fn decide(
     in_force: usize,
     window: Window,
     feature: u32,
-) -> WindowPlan
-    ensures { WindowDecided
-        (edit_refusal (paint_window m s keys.now bits.now n summary.now log_keys.now log_values.now used in_force window feature))
-        m window result }
+) -> Result<u32, Refusal>
+    ensures told { refusal_told result
+        ≡ edit_refusal (paint_window m s keys.now bits.now n summary.now log_keys.now log_values.now used in_force window feature) }
+    ensures number { IfOk result (λ number. number ≡ length (largest_blocks m window)) }
 {
-    let early = decision::edit_refusal(
+    let list = decision::accept_sheet(
         m, s, keys, bits, n, summary, log_keys, log_values, used, in_force,
-    );
-    if early != 0 {
-        return refused(early);
-    }
+    )?;
     if !bounds::is_window(m, window) {
-        return refused(Refusal::WINDOW);
+        return Err(Refusal::Window);
     }
     if s <= feature {
-        return refused(Refusal::FEATURE);
+        return Err(Refusal::Feature);
     }
-    decide_room(
-        m, keys, bits, n, log_keys, log_values, in_force, window, feature,
-    )
+    let list_room = slices::smaller(keys.len(), bits.len());
+    let log_room = slices::smaller(log_keys.len(), log_values.len());
+    decide_room(&list, list_room, log_room, in_force, window, feature)
 }
 
 // Every pixel of the window gets the feature, the summary follows, and the log gains a group, over what could be redone.
@@ -113,34 +91,24 @@ pub fn paint_window(
     in_force: usize,
     window: Window,
     feature: u32,
-) -> Edited
+) -> Result<SheetCounts, Refusal>
     ensures { WindowPainted m s keys.old bits.old n summary.old log_keys.old log_values.old used in_force window feature
-        result keys.new bits.new summary.new log_keys.new log_values.new }
+        (as_edited result) keys.new bits.new summary.new log_keys.new log_values.new }
 {
-    let plan = decide(
+    let number = decide(
         m, s, keys, bits, n, summary, log_keys, log_values, used, in_force, window, feature,
-    );
-    let refusal = plan.refusal;
-    if refusal != 0 {
-        return Edited {
-            refusal,
-            n: 0,
-            used: 0,
-            in_force: 0,
-        };
-    }
-    let number = plan.number;
+    )?;
+    let former = taken(m, keys, bits, n);
     let logged = window_logging::log_window(
-        m, keys, bits, n, window, feature, number, log_keys, log_values, used, in_force,
+        &former, window, feature, number, log_keys, log_values, used, in_force,
     );
-    let after = filling::fill_window(m, keys, bits, n, log_keys, log_values, window, feature);
-    let deed = Deed::Fill(window, feature);
-    let doing = Doing { m, deed };
-    recount::recount(doing, s, keys, bits, after, log_keys, log_values, summary);
-    Edited {
-        refusal: 0,
-        n: after as u64,
-        used: logged as u64,
-        in_force: logged as u64,
-    }
+    let after = filling::fill_window(m, keys, bits, n, window, feature);
+    let painted = taken(m, keys, bits, after);
+    let doing = filling::painting(m, window, feature);
+    recount::recount(doing, &painted, s, summary);
+    Ok(SheetCounts {
+        n: after,
+        used: logged,
+        in_force: logged,
+    })
 }

@@ -1,16 +1,17 @@
 // The largest blocks of a window, by the quadrants of the map: how a block lies to the window, and what their entries will need.
-ghost use Rattle.std.specs.Prelude.{◌+◌, ◌^◌, [], ◌∷◌};
+ghost use Rattle.std.specs.Prelude.{◌≡◌, ◌+◌, ◌^◌, [], ◌∷◌};
 ghost use Rattle.keys.specs.Child.{InMap};
-ghost use Rattle.list.specs.Own.{shown_by};
-ghost use Rattle.list.specs.Sorted.{Near};
-ghost use Rattle.window_paint.specs.WindowLogging.{largest_in, Placed, Lying, Coverable, BlockFrom, NeededFor};
+ghost use Rattle.list.specs.Taken.{picture_listed};
+ghost use Rattle.window_paint.specs.WindowLogging.{largest_in, Placed, Lying, place_told, NeededFor};
+ghost use Rattle.window_paint.specs.Searching.{SmallWindow, NearIn, BlockSought};
 
-use definitions::Window;
+use definitions::{Standing, Window};
 use edit::logging;
 use edit_log::entry;
-use keys::block::{TreeBlock, child};
+use keys::block::{TreeBlock, child, square};
 use keys::power;
-use walk::Spot;
+use list::accepted_list::Accepted;
+use walk::lying;
 use walk::lying::Lie;
 
 // A block to a window: none of the largest blocks lies in it, it is one itself, or its quadrants have to be asked.
@@ -18,21 +19,17 @@ pub fn lies(window: Window, block: TreeBlock) -> Lie
     requires { Placed window block }
     ensures { Lying window block result }
 {
-    let side = power::power_of_two(block.height);
-    let spot = Spot {
-        key: block.key,
-        row: block.row,
-        column: block.column,
-        side,
-        step: 0,
-    };
-    if walk::apart(spot, window) {
-        return Lie::Apart;
+    lying::lies(square(block), window)
+}
+
+// The place where a block was found, or the leaf around it: the search for the next block can begin there.
+pub fn place_found(standing: Standing) -> usize
+    ensures { result ≡ place_told standing }
+{
+    match standing {
+        Standing::Listed(place, _) => place,
+        Standing::Inside(place, _, _) => place,
     }
-    if walk::within(spot, window) {
-        return Lie::Within;
-    }
-    Lie::Cut
 }
 
 // The number of blocks, how many places of the log their entries take, and the place where the search for the next block begins.
@@ -44,34 +41,25 @@ pub struct Needed {
 }
 
 // What one block needs, which is looked for from a place on.
-fn need_one(m: u32, keys: &[u32], bits: &[u32], n: usize, block: TreeBlock, from: usize) -> Needed
-    requires { BlockFrom m keys.now bits.now n block from }
-    ensures { NeededFor m (shown_by m keys.now bits.now n) (block.key ∷ []) result.number result.places
-        × Near keys.now n result.from (block.key + 5 ^ block.height) }
+fn need_one(list: &Accepted<'_>, block: TreeBlock, from: usize) -> Needed
+    requires { BlockSought list.now block from }
+    ensures { NeededFor list.now.m (picture_listed list.now) (block.key ∷ []) result.number result.places
+        × NearIn list.now result.from (block.key + 5 ^ block.height) }
 {
     let step = power::power_of_five(block.height);
-    let former = logging::content_from(m, keys, bits, n, from, block.key, step);
-    let places = entry::places(former.count);
+    let standing = list.stand_from(from, block.key, step);
     Needed {
         number: 1,
-        places,
-        from: former.place,
+        places: entry::places(logging::content_count(standing)),
+        from: place_found(standing),
     }
 }
 
 // What the largest blocks at or below a block need. They come in key order, so each is looked for from where the last one was found.
-pub fn need_below(
-    m: u32,
-    keys: &[u32],
-    bits: &[u32],
-    n: usize,
-    window: Window,
-    block: TreeBlock,
-    from: usize,
-) -> Needed
-    requires { Coverable m keys.now bits.now n window × InMap m block × Near keys.now n from block.key }
-    ensures { NeededFor m (shown_by m keys.now bits.now n) (largest_in window block) result.number result.places
-        × Near keys.now n result.from (block.key + 5 ^ block.height) }
+pub fn need_below(list: &Accepted<'_>, window: Window, block: TreeBlock, from: usize) -> Needed
+    requires { SmallWindow window × InMap list.now.m block × NearIn list.now from block.key }
+    ensures { NeededFor list.now.m (picture_listed list.now) (largest_in window block) result.number result.places
+        × NearIn list.now result.from (block.key + 5 ^ block.height) }
 {
     match lies(window, block) {
         Lie::Apart => Needed {
@@ -79,17 +67,15 @@ pub fn need_below(
             places: 0,
             from,
         },
-        Lie::Within => need_one(m, keys, bits, n, block, from),
+        Lie::Within => need_one(list, block, from),
         Lie::Cut => {
-            let nw = need_below(m, keys, bits, n, window, child(block, 1), from);
-            let ne = need_below(m, keys, bits, n, window, child(block, 2), nw.from);
-            let sw = need_below(m, keys, bits, n, window, child(block, 3), ne.from);
-            let se = need_below(m, keys, bits, n, window, child(block, 4), sw.from);
-            let number = nw.number + ne.number + sw.number + se.number;
-            let places = nw.places + ne.places + sw.places + se.places;
+            let nw = need_below(list, window, child(block, 1), from);
+            let ne = need_below(list, window, child(block, 2), nw.from);
+            let sw = need_below(list, window, child(block, 3), ne.from);
+            let se = need_below(list, window, child(block, 4), sw.from);
             Needed {
-                number,
-                places,
+                number: nw.number + ne.number + sw.number + se.number,
+                places: nw.places + ne.places + sw.places + se.places,
                 from: se.from,
             }
         }

@@ -1,13 +1,13 @@
 // What painting a window logs: a group, with an entry for each of the window's largest blocks. All contents are read off the list as it was.
 ghost use Rattle.std.specs.Prelude.{◌+◌, ◌^◌, ◌≤◌, length};
-ghost use Rattle.definitions.specs.Read.{room, records_of};
+ghost use Rattle.definitions.specs.Read.{room};
 ghost use Rattle.definitions.specs.Calls.Paint.{gained};
 ghost use Rattle.definitions.specs.Calls.PaintWindow.{group_gained};
-ghost use Rattle.list.specs.Own.{shown_by};
-ghost use Rattle.list.specs.Sorted.{Near};
+ghost use Rattle.list.specs.Taken.{records_listed, picture_listed};
 ghost use Rattle.edit_log.specs.Entries.{Logged};
 ghost use Rattle.edit.specs.PaintCall.{Relogged};
-ghost use Rattle.window_paint.specs.WindowLogging.{entries_below, BlockFrom, Enterable, FreshGroup};
+ghost use Rattle.window_paint.specs.WindowLogging.{entries_below};
+ghost use Rattle.window_paint.specs.Searching.{NearIn, BlockSought, EnterableIn, FreshGroupOf};
 
 use crate::window_blocks;
 use definitions::Window;
@@ -16,6 +16,7 @@ use edit_log::entry::Entry;
 use edit_log::{entry, group};
 use keys::block::{TreeBlock, child};
 use keys::{block, power};
+use list::accepted_list::Accepted;
 use walk::lying::Lie;
 
 // The place past the entries that are written, and the place where the search for the next block begins.
@@ -27,44 +28,38 @@ pub struct EntriesEnd {
 
 // Writes the entry of one block from a place on. The block is looked for from another on.
 pub fn log_block(
-    m: u32,
-    keys: &[u32],
-    bits: &[u32],
-    n: usize,
+    list: &Accepted<'_>,
     block: TreeBlock,
     feature: u32,
     at: EntriesEnd,
     log_keys: &mut [u32],
     log_values: &mut [u32],
 ) -> EntriesEnd
-    requires block_from { BlockFrom m keys.now bits.now n block at.from }
-    requires feature_bound { at.place + length (gained m (records_of keys.now bits.now n) block.key feature) ≤ room log_keys.old log_values.old }
-    ensures { Logged (gained m (records_of keys.now bits.now n) block.key feature) at.place
+    requires block_from { BlockSought list.now block at.from }
+    requires feature_bound { at.place + length (gained list.now.m (records_listed list.now) block.key feature) ≤ room log_keys.old log_values.old }
+    ensures { Logged (gained list.now.m (records_listed list.now) block.key feature) at.place
         log_keys.old log_values.old log_keys.new log_values.new result.place
-        × Near keys.now n result.from (block.key + 5 ^ block.height) }
+        × NearIn list.now result.from (block.key + 5 ^ block.height) }
 {
     let step = power::power_of_five(block.height);
-    let former = logging::content_from(m, keys, bits, n, at.from, block.key, step);
+    let standing = list.stand_from(at.from, block.key, step);
     let new = Entry {
         key: block.key,
         start: at.place,
-        count: former.count,
+        count: logging::content_count(standing),
         feature,
     };
-    let end = logging::log_content(m, keys, bits, n, former, new, log_keys, log_values);
+    let end = logging::log_content(list, standing, new, log_keys, log_values);
     EntriesEnd {
         place: end,
-        from: former.place,
+        from: window_blocks::place_found(standing),
     }
 }
 
 // Writes the entries of the largest blocks at or below a block, one behind the other, from a place on. They come in key order, so each is looked for
 // from where the last one was found.
 pub fn log_blocks(
-    m: u32,
-    keys: &[u32],
-    bits: &[u32],
-    n: usize,
+    list: &Accepted<'_>,
     window: Window,
     feature: u32,
     block: TreeBlock,
@@ -72,42 +67,30 @@ pub fn log_blocks(
     log_keys: &mut [u32],
     log_values: &mut [u32],
 ) -> EntriesEnd
-    requires { Enterable m keys.now bits.now n window feature block at.place log_keys.old log_values.old
-        × Near keys.now n at.from block.key }
-    ensures { Logged (entries_below m (shown_by m keys.now bits.now n) window feature block) at.place
+    requires { EnterableIn list.now window feature block at.place log_keys.old log_values.old × NearIn list.now at.from block.key }
+    ensures { Logged (entries_below list.now.m (picture_listed list.now) window feature block) at.place
         log_keys.old log_values.old log_keys.new log_values.new result.place
-        × Near keys.now n result.from (block.key + 5 ^ block.height) }
+        × NearIn list.now result.from (block.key + 5 ^ block.height) }
 {
     match window_blocks::lies(window, block) {
         Lie::Apart => at,
-        Lie::Within => log_block(m, keys, bits, n, block, feature, at, log_keys, log_values),
+        Lie::Within => log_block(list, block, feature, at, log_keys, log_values),
         Lie::Cut => {
             let one = child(block, 1);
-            let nw = log_blocks(
-                m, keys, bits, n, window, feature, one, at, log_keys, log_values,
-            );
+            let nw = log_blocks(list, window, feature, one, at, log_keys, log_values);
             let two = child(block, 2);
-            let ne = log_blocks(
-                m, keys, bits, n, window, feature, two, nw, log_keys, log_values,
-            );
+            let ne = log_blocks(list, window, feature, two, nw, log_keys, log_values);
             let three = child(block, 3);
-            let sw = log_blocks(
-                m, keys, bits, n, window, feature, three, ne, log_keys, log_values,
-            );
+            let sw = log_blocks(list, window, feature, three, ne, log_keys, log_values);
             let four = child(block, 4);
-            log_blocks(
-                m, keys, bits, n, window, feature, four, sw, log_keys, log_values,
-            )
+            log_blocks(list, window, feature, four, sw, log_keys, log_values)
         }
     }
 }
 
 // Writes the group over what could be redone: what was used past it becomes zero. Gives the number of records used then.
 pub fn log_window(
-    m: u32,
-    keys: &[u32],
-    bits: &[u32],
-    n: usize,
+    list: &Accepted<'_>,
     window: Window,
     feature: u32,
     number: u32,
@@ -116,18 +99,16 @@ pub fn log_window(
     used: usize,
     in_force: usize,
 ) -> usize
-    requires { FreshGroup m keys.now bits.now n window feature number in_force used log_keys.old log_values.old }
-    ensures { Relogged (group_gained m (records_of keys.now bits.now n) window feature) in_force used
+    requires { FreshGroupOf list.now window feature number in_force used log_keys.old log_values.old }
+    ensures { Relogged (group_gained list.now.m (records_listed list.now) window feature) in_force used
         log_keys.old log_values.old log_keys.new log_values.new result }
 {
     let start = EntriesEnd {
         place: in_force,
         from: 0,
     };
-    let root = block::root(m);
-    let written = log_blocks(
-        m, keys, bits, n, window, feature, root, start, log_keys, log_values,
-    );
+    let root = block::root(list.m);
+    let written = log_blocks(list, window, feature, root, start, log_keys, log_values);
     let end = group::close_group(number, written.place, log_keys, log_values);
     entry::clear_from(log_keys, log_values, end, used);
     end

@@ -6,7 +6,7 @@ pub returns-then-at : goal.returns-then-at
 returns-then-at c = grown_none _ c.if-at.true
 
 pub grow-requires : goal.grow-requires
-grow-requires c = let r = c.before in let s = r.requires in rw r.root.ensures s
+grow-requires c = rw c.root.ensures c.requires
 
 pub returns : goal.returns
-returns c = let g = c.before in grown_all _ g.root.ensures g.grow.ensures
+returns c = grown_all _ c.root.ensures c.grow.ensures

@@ -5,10 +5,10 @@ use Rattle.apply_deed.specs.Passes.{known_of}
 use Rattle.apply_deed.proofs.tally.known.Goals as goal
 
 pub offset_bounds-log_values-start : goal.offset_bounds-log_values-start
-offset_bounds-log_values-start c = let s = c in let h = s.requires.starts _ _ c.in-Content.is in record { fits = omega (arith, h, s.well_formed) }
+offset_bounds-log_values-start c = let s = c in let h = c.requires.starts _ _ c.in-Content.is in record { fits = omega (arith, h, c.well_formed) }
 
 pub bounds-log_values-start : goal.bounds-log_values-start
-bounds-log_values-start c = let s = c.before in let h = s.requires.starts _ _ c.in-Content.is in omega (arith, h)
+bounds-log_values-start c = let h = c.requires.starts _ _ c.in-Content.is in omega (arith, h)
 
 pub returns-in-Apart : goal.returns-in-Apart
 returns-in-Apart c = let a = c.args in sym (ap (λ x. known_of x a.own a.records a.log_values.now) c.in-Apart.is)

@@ -17,7 +17,7 @@ use Rattle.window_paint.proofs.EntriesLogged.{no_entry, one_entry, enter_nw, ent
 use Rattle.window_paint.proofs.window_logging.+log_blocks.Goals as goal
 
 pub lies-requires : goal.lies-requires
-lies-requires t c = let a = c.requires.0 in placed a.list a.block
+lies-requires t c = let a = c.requires.0 in placed a.list.deep (record { low = a.list.low; narrow = a.list.narrow }) a.block
 
 pub returns-in-Apart : goal.returns-in-Apart
 returns-in-Apart t c = (no_entry _ _ _ _ c.args.block _ _ _ (rw c.in-Apart.is at c.lies.ensures), near_after c.args.block c.requires.1)
@@ -27,13 +27,15 @@ pub log_block-requires : goal.log_block-requires
 log_block-requires t c =
     let a = c.args in
     let r = c.requires in
-    let e = ap length (one_entry a.m a.keys.now a.bits.now a.n a.window a.feature a.block (rw c.in-Within.is at c.lies.ensures)) in
-    record { block_from = block_from _ r.0.list r.0.block r.1; feature_bound = omega (arith, e, r.0.fits) }
+    let list = a.list.now in
+    let e = ap length (one_entry list.m list.keys.now list.bits.now (length list.keys.now) a.window a.feature a.block (rw c.in-Within.is at c.lies.ensures)) in
+    record { block_from = block_from list _ r.0.block r.1; feature_bound = omega (arith, e, r.0.fits) }
 
 pub returns-in-Within : goal.returns-in-Within
 returns-in-Within t c =
     let a = c.args in
-    let e = one_entry a.m a.keys.now a.bits.now a.n a.window a.feature a.block (rw c.in-Within.is at c.lies.ensures) in
+    let list = a.list.now in
+    let e = one_entry list.m list.keys.now list.bits.now (length list.keys.now) a.window a.feature a.block (rw c.in-Within.is at c.lies.ensures) in
     (logged_same e c.log_block.ensures.0, c.log_block.ensures.1)
 
 -- a block whose quadrants have to be asked
