@@ -8,22 +8,20 @@ use lib.ListN.{length}
 use Rattle.definitions.specs.Picture.{Picture}
 use Rattle.definitions.specs.List.{Record}
 use Rattle.definitions.specs.Read.{records_of}
-use Rattle.definitions.specs.Log.{closing_places, step_count, step_entries, before_step}
+use Rattle.definitions.specs.Log.{closing_places, step_count, step_entries, before_step, put_back, paint_again}
 use Rattle.laws.proofs.Records.{records-length}
 use Rattle.edit_log.specs.declared.step.LogStep.{LogStep}
 use Rattle.edit_log.specs.Steps.{last_step, Stepped, EntriesBetween, none_between, one_between}
 use Rattle.edit_log.proofs.GroupChecked.{entries_at}
 use Rattle.edit_log.proofs.GroupEntries.{group_between}
 use Rattle.deeds.specs.declared.run.Run.{Run}
-use Rattle.deeds.specs.declared.deed.Deed.{Deed}
+use Rattle.deeds.specs.declared.deed.Deed.TheVariants.{Back, Again}
 use Rattle.deeds.specs.Step.{step_over}
-use Rattle.deeds.specs.Deed.{Doable, step_of}
+use Rattle.deeds.specs.Deed.{step_of}
 use Rattle.deeds.specs.Runs.{last_first, Chain, done, more, Between, EntriesIn}
 use Rattle.deeds.proofs.Chains.{last_none, chain_more}
 use Rattle.deeds.proofs.PutBack.{back_picture, again_picture}
-use Rattle.undo.specs.GroupCall.{GroupLast, GroupRun, deed_of, group_over}
-use Rattle.deeds.specs.declared.direction.Direction.{Direction}
-use Rattle.deeds.specs.declared.direction.Direction.TheVariants.{Back as Backward, Again as Onward}
+use Rattle.undo.specs.GroupCall.{GroupLast, GroupRun}
 
 -- entries between two places are a chain, with as many links
 between_chain : {m s : ℕ} {ks vs : List ℕ} {start count end : ℕ} → EntriesBetween m s ks vs start count end → Chain m s ks vs start end
@@ -80,20 +78,10 @@ module _ {m : ℕ} {ks vs : List ℕ} {used : ℕ} (d : GroupLast m ks vs used) 
           many = ap₂ (λ a b. length (last_first b ks vs a b)) (starts ∙ start_is) (ends ∙ end_is) ∙ between_many between;
         }
 
--- the deed over it, by the way that it goes
-module _ {m : ℕ} {run : Run} {ks vs : List ℕ} {log : List Record} (g : GroupRun m run ks vs log) where
-  over : (direction : Direction) (p : Picture) → step_over (step_of m (deed_of direction run) ks vs) p ≡ group_over direction m log p
-  over Backward p = back_picture g.entries g.many g.entries_are p
-  over Onward p = again_picture g.entries g.many g.entries_are p
+-- the deeds over it: its contents go back, the last first, or its blocks are painted again, the first first
+module _ {m : ℕ} {run : Run} {ks vs : List ℕ} {log : List Record} (g : GroupRun m run ks vs log) (p : Picture) where
+  pub back_over : step_over (step_of m (Back run) ks vs) p ≡ put_back (step_count log) m (step_entries log) p
+  back_over = back_picture g.entries g.many g.entries_are p
 
-  can_do : (direction : Direction) → Doable m (deed_of direction run) ks vs
-  can_do Backward = g.entries
-  can_do Onward = g.entries
-
-  -- as it was made
-  module _ (direction : Direction) (deed : Deed) (is : deed ≡ deed_of direction run) where
-    pub deed_doable : Doable m deed ks vs
-    deed_doable = subst (λ d. Doable m d ks vs) (sym is) (can_do direction)
-
-    pub deed_over : (p : Picture) → step_over (step_of m deed ks vs) p ≡ group_over direction m log p
-    deed_over p = ap (λ d. step_over (step_of m d ks vs) p) is ∙ over direction p
+  pub again_over : step_over (step_of m (Again run) ks vs) p ≡ paint_again (step_count log) m (step_entries log) p
+  again_over = again_picture g.entries g.many g.entries_are p

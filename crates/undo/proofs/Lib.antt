@@ -7,3 +7,4 @@ pub mod TakingBackGroup
 pub mod RedoTable
 pub mod RedoPlan
 pub mod RedoGroup
+pub mod PlanFound

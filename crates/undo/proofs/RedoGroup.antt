@@ -1,7 +1,7 @@
 -- A group that is redone: what its run and the list ask for, and the call's answers. Rests on Applying and StepAnswers, on
 -- RedoPlan and RedoTable.
 use Prim.Native.Nat.{ℕ, ◌+◌, ◌-◌, ◌≤◌}
-use mathlib.Core.Path.{◌≡◌, sym, ◌∙◌, ap}
+use mathlib.Core.Path.{◌≡◌, sym, ◌∙◌, ap, subst}
 use mathlib.Core.Bool.{true}
 use mathlib.Core.List.{List}
 use native.Mathlib.Omega.{arith}
@@ -11,14 +11,19 @@ use Rattle.definitions.specs.Read.{records_of}
 use Rattle.definitions.specs.Log.{closing_places, ends_in_mark, step_count, step_entries, last_is_step, first_step, paint_again, to_redo}
 use Rattle.definitions.specs.Calls.Edit.{as_lent}
 use Rattle.definitions.specs.Calls.Redo.{redone_picture, Redone}
-use Rattle.definitions.specs.declared.Edited.{Edited}
+use Rattle.definitions.specs.Refused.{refusal_number}
+use Rattle.definitions.specs.declared.refusal.Refusal.{Refusal}
+use Rattle.deeds.specs.Step.{step_over}
+use Rattle.deeds.specs.Deed.{step_of}
+use Rattle.deeds.specs.declared.run.Run.{Run}
+use Rattle.deeds.specs.declared.deed.Deed.TheVariants.{Again}
 use Rattle.laws.proofs.LastStep.{entries_group, ends_in_group}
 use Rattle.list.specs.Own.{shown_by}
-use Rattle.undo.specs.GroupCall.{GroupLast, WithSummary, Applied, group_answer}
+use Rattle.undo.specs.GroupCall.{GroupLast, GroupRun, WithSummary, StepDone, StepFull}
 use Rattle.undo.specs.RedoCall.{Redoable, LogToRedo}
 use Rattle.edit.proofs.EditCallTables.{passed_settings, passed_own, passed_summary}
-use Rattle.undo.proofs.Applying.{applied_as}
-use Rattle.undo.proofs.StepAnswers.{step_answered}
+use Rattle.undo.proofs.GroupRuns.{again_over}
+use Rattle.undo.proofs.StepAnswers.{step_applied, step_full}
 use Rattle.undo.proofs.RedoPlan.{redo_first, part_lent, end_within, first_records}
 use Rattle.undo.proofs.RedoTable.{redo_sheet, redo_own, to-redo}
 
@@ -75,16 +80,22 @@ module _ {m s : ℕ} {keys bits : List ℕ} {n : ℕ} {summary log_keys log_valu
           mark = ap ends_in_mark (sym first_is) ∙ mark;
         }
 
-    module _ {keys' bits' summary' : List ℕ} {r : ℕ}
-        (lent : Applied
-        (paint_again
-        (step_count (records_of (take (used - in_force) (drop in_force log_keys)) (take (used - in_force) (drop in_force log_values)) (end + 2))) m
-        (step_entries (records_of (take (used - in_force) (drop in_force log_keys)) (take (used - in_force) (drop in_force log_values)) (end + 2))) (shown_by m keys bits n))
-        m s n keys bits summary keys' bits' summary' r) where
-      a : Applied (redone_picture m (records_of keys bits n) (to_redo log_keys log_values used in_force)) m s n keys bits summary keys' bits' summary' r
-      a = applied_as (ap (λ x. paint_again (step_count x) m (step_entries x) (shown_by m keys bits n)) (sym first_is)) lent
+    module _ {run : Run} (g : GroupRun m run (take (used - in_force) (drop in_force log_keys)) (take (used - in_force) (drop in_force log_values))
+        (records_of (take (used - in_force) (drop in_force log_keys)) (take (used - in_force) (drop in_force log_values)) (end + 2))) where
+      over : step_over (step_of m (Again run) (take (used - in_force) (drop in_force log_keys)) (take (used - in_force) (drop in_force log_values))) (shown_by m keys bits n)
+          ≡ redone_picture m (records_of keys bits n) (to_redo log_keys log_values used in_force)
+      over = again_over g (shown_by m keys bits n) ∙ ap (λ x. paint_again (step_count x) m (step_entries x) (shown_by m keys bits n)) (sym first_is)
 
-      -- as it is answered
-      pub group_redone : (answered : Edited) → answered ≡ group_answer r used (in_force + (end + 2))
-          → Redone m s keys bits n summary log_keys log_values used in_force answered keys' bits' summary' log_keys log_values
-      group_redone answered e = step_answered _ _ _ _ (redo_sheet t) (redo_own t) a answered e (ap (λ x. in_force + x) past_is)
+      pub group_redone : {keys' bits' summary' : List ℕ} {after : ℕ}
+          → StepDone (step_over (step_of m (Again run) (take (used - in_force) (drop in_force log_keys)) (take (used - in_force) (drop in_force log_values))) (shown_by m keys bits n))
+          m s n keys bits keys' bits' summary' after
+          → Redone m s keys bits n summary log_keys log_values used in_force (record { refusal = 0; n = after; used = used; in_force = in_force + (end + 2) }) keys' bits' summary' log_keys log_values
+      group_redone {keys'} {bits'} {summary'} {after} made =
+          step_applied _ _ _ _ (redo_sheet t) (redo_own t) (subst (λ p. StepDone p m s n keys bits keys' bits' summary' after) over made) (ap (λ x. in_force + x) past_is)
+
+      pub group_full : {keys' bits' summary' : List ℕ} (refusal : Refusal)
+          → StepFull (step_over (step_of m (Again run) (take (used - in_force) (drop in_force log_keys)) (take (used - in_force) (drop in_force log_values))) (shown_by m keys bits n))
+          m keys bits summary keys' bits' summary' refusal
+          → Redone m s keys bits n summary log_keys log_values used in_force (record { refusal = refusal_number refusal; n = 0; used = 0; in_force = 0 }) keys' bits' summary' log_keys log_values
+      group_full {keys'} {bits'} {summary'} refusal left =
+          step_full _ _ _ _ (redo_sheet t) (redo_own t) refusal (subst (λ p. StepFull p m keys bits summary keys' bits' summary' refusal) over left)

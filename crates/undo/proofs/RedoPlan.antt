@@ -17,7 +17,9 @@ use Rattle.definitions.specs.Calls.Paint.{painted_picture, painted}
 use Rattle.laws.proofs.LogEntries.{ends_in_entry}
 use Rattle.laws.proofs.LastStep.{count_single, entries_single, step_single}
 use Rattle.laws.proofs.Records.{records-length, records_first}
-use Rattle.list.specs.Own.{OwnList, shown_by}
+use Rattle.list.specs.Own.{OwnList}
+use Rattle.list.specs.declared.accepted_list.Accepted.{Accepted}
+use Rattle.list.specs.Taken.{Taken, picture_listed}
 use Rattle.edit_log.specs.declared.entry.Entry.{Entry}
 use Rattle.edit_log.specs.declared.step.LogStep.{LogStep}
 use Rattle.edit_log.specs.Entries.{last_entry, Ended}
@@ -26,8 +28,7 @@ use Rattle.edit_log.proofs.First.{FirstOf, first_sound}
 use Rattle.edit_log.proofs.Last.{entry_ended}
 use Rattle.edit_log.proofs.Parts.{part_length, part_redo}
 use Rattle.replace.specs.Putting.{Replaced}
-use Rattle.replace.specs.declared.plan.Plan.{Plan}
-use Rattle.edit.specs.PaintCall.{Paintable, paint_plan}
+use Rattle.edit.specs.PaintCall.{Paintable}
 use Rattle.undo.specs.RedoCall.{LogToRedo, next_step, next_entry}
 use Rattle.edit.proofs.PaintPlan.{paint_counted}
 
@@ -139,15 +140,6 @@ module _ (m : ℕ) (l steps : List Record) (single : ends_in_mark (first_step st
   unfolding redone painted
   redone_is = ap (list_of_picture m) (sym again)
 
--- the plan and the room of a paint, by the entry that a decision goes by
-pub redo_paints : (m : ℕ) (l : List Record) (entry next : Entry) → next ≡ entry → (plan : Plan) (size : ℕ) → plan ≡ paint_plan m l entry.key entry.feature
-    → length (painted m l entry.key entry.feature) ≤ size
-    → (plan ≡ paint_plan m l next.key next.feature) × (length (painted m l next.key next.feature) ≤ size)
-redo_paints m l entry next same plan size found fits =
-    let e : length (painted m l next.key next.feature) ≡ length (painted m l entry.key entry.feature)
-    = ap (λ x. length (painted m l x.key x.feature)) same in
-    (found ∙ sym (ap (λ x. paint_plan m l x.key x.feature) same), omega arith)
-
 -- the step that was found, by its kind
 pub next_single : (steps : List Record) (next : LogStep) → next ≡ next_step steps → next.grouped ≡ false
     → (ends_in_mark (first_step steps) ≡ false) × (next.end ≡ length (first_step steps))
@@ -167,6 +159,6 @@ module _ {m n : ℕ} {keys bits keys' bits' : List ℕ} {r : ℕ} (steps : List 
   redo_made = subst (λ l. Replaced n l keys bits keys' bits' r) (redone_is m (records_of keys bits n) steps single next is) made
 
   -- and counted anew it is that of the picture painted again
-  pub redo_counted : (s : ℕ) (summary' : List ℕ) → summary' ≡ summary_of m s (shown_by m keys' bits' r) → summary' ≡ summary_of m s (redone_picture m (records_of keys bits n) steps)
-  redo_counted s summary' e =
-      paint_counted s a made summary' e ∙ ap (summary_of m s) (sym (again m (records_of keys bits n) steps single next is))
+  pub redo_counted : (s : ℕ) {list : Accepted} (t : Taken m keys' bits' r list) (summary' : List ℕ) → summary' ≡ summary_of list.m s (picture_listed list) → summary' ≡ summary_of m s (redone_picture m (records_of keys bits n) steps)
+  redo_counted s t summary' e =
+      paint_counted s a made t summary' e ∙ ap (summary_of m s) (sym (again m (records_of keys bits n) steps single next is))

@@ -2,11 +2,12 @@
 -- and on the laws of the last entry.
 use Prim.Native.Nat.{ℕ, ◌+◌, ◌≤◌, ◌<◌}
 use mathlib.Core.Path.{◌≡◌, sym, ◌∙◌, ap, ap₂, subst}
-use mathlib.Core.Bool.{true, false}
+use mathlib.Core.Bool.{true, false, cond}
 use mathlib.Core.List.{List}
 use native.Mathlib.Omega.{arith}
 use lib.ListN.{length, get_or}
 use lib.Dec.{eqb}
+use Rattle.std.specs.Prelude.{Option, Some, None}
 use Rattle.keys.specs.Key.{slot_limit, valid_key}
 use Rattle.definitions.specs.List.{Record, list_of_picture}
 use Rattle.definitions.specs.Read.{room, records_of, picture_of}
@@ -15,19 +16,21 @@ use Rattle.definitions.specs.Log.{last_key, last_content, ends_in_mark, put_back
 use Rattle.definitions.specs.Area.{summary_of}
 use Rattle.definitions.specs.Calls.TakeBack.{restored_picture, restored}
 use Rattle.laws.proofs.LastStep.{count_single, entries_single}
-use Rattle.list.specs.Own.{shown_by}
+use Rattle.list.specs.Own.{OwnList, shown_by}
+use Rattle.list.specs.declared.accepted_list.Accepted.{Accepted}
+use Rattle.list.specs.Taken.{Taken, picture_listed}
 use Rattle.edit_log.specs.declared.entry.Entry.{Entry}
 use Rattle.edit_log.specs.Entries.{last_entry, content_part}
 use Rattle.edit_log.proofs.Last.{content-length}
 use Rattle.edit_log.proofs.Places.{count-is, places_are, first-bits, lent_length, lent_content}
-use Rattle.replace.specs.Put.{top_for, plan_at, plan_of, edited}
+use Rattle.replace.specs.Put.{top_with, one_told, plan_at, plan_of, edited}
 use Rattle.replace.specs.Putting.{Puttable, Replaced}
 use Rattle.replace.specs.declared.plan.Plan.{Plan}
-use Rattle.replace.proofs.PlanTop.{plan_for}
+use Rattle.replace.proofs.PlanTop.{plan_with}
 use Rattle.edit.specs.Recount.{Outdated}
 use Rattle.undo.specs.TakingBackCall.{Restorable, restore_plan}
 use Rattle.edit.proofs.Planned.{Planned, can_put, put_makes}
-use Rattle.edit.proofs.Changed.{put_outdated, put_counted}
+use Rattle.edit.proofs.Changed.{new_own, put_outdated, put_counted}
 
 -- a single entry is taken back by putting its content
 restored_single : (m : ℕ) (l log : List Record) → ends_in_mark log ≡ false
@@ -48,17 +51,22 @@ module _ {m n in_force : ℕ} {keys bits log_keys log_values : List ℕ} (a : Re
   pub content_count : last.count ≡ length (last_content (records_of log_keys log_values in_force))
   content_count = count-is a.ended last is ∙ sym (content-length a.ended)
 
-  module _ (plan : Plan) where
-    -- the plan that was found for the key, the count and the first bits
-    pub restore_found : plan ≡ plan_at m (records_of keys bits n) last.key
-        (top_for m (records_of keys bits n) last.key (eqb last.count 1) (get_or log_values last.start 0))
-        → plan ≡ restore_plan m (records_of keys bits n) (records_of log_keys log_values in_force)
-    restore_found found =
-        found
-        ∙ plan_for m (records_of keys bits n) last.key (last_content (records_of log_keys log_values in_force)) (eqb last.count 1) (get_or log_values last.start 0)
-        (ap (λ x. eqb x 1) (sym content_count)) (first-bits a.ended last is (subst (λ x. 0 < x) (sym (count-is a.ended last is)) a.some_content))
-        ∙ ap (λ κ. plan_of m (records_of keys bits n) κ (last_content (records_of log_keys log_values in_force))) key-is
+  -- what is told of the content is true
+  pub told_content : (one : Option ℕ) → one ≡ cond (eqb last.count 1) (Some (get_or log_values last.start 0)) None
+      → one ≡ one_told (last_content (records_of log_keys log_values in_force))
+  told_content one e =
+      let first = first-bits a.ended last is (subst (λ x. 0 < x) (sym (count-is a.ended last is)) a.some_content) in
+      e ∙ ap₂ (λ x b. cond (eqb x 1) (Some b) None) content_count (sym first)
 
+  -- so the plan that was found for it is the content's
+  pub restore_found : (one : Option ℕ) → one ≡ cond (eqb last.count 1) (Some (get_or log_values last.start 0)) None
+      → plan_at m (records_of keys bits n) last.key (top_with m (records_of keys bits n) last.key one)
+      ≡ restore_plan m (records_of keys bits n) (records_of log_keys log_values in_force)
+  restore_found one e =
+      plan_with m (records_of keys bits n) last.key (last_content (records_of log_keys log_values in_force)) one (told_content one e)
+      ∙ ap (λ κ. plan_of m (records_of keys bits n) κ (last_content (records_of log_keys log_values in_force))) key-is
+
+  module _ (plan : Plan) where
     -- is one that makes the restored list
     pub restore_planned : plan ≡ restore_plan m (records_of keys bits n) (records_of log_keys log_values in_force)
         → Planned m keys bits n last.key (last_content (records_of log_keys log_values in_force))
@@ -108,15 +116,20 @@ module _ (s : ℕ) {m n in_force : ℕ} {keys bits log_keys log_values keys' bit
   put_there =
       subst (λ p. Replaced n (list_of_picture m p) keys bits keys' bits' r) (restored_single m (records_of keys bits n) (records_of log_keys log_values in_force) a.single) made
 
-  pub restore_outdated : (summary : List ℕ) → s ≤ slot_limit → summary ≡ summary_of m s (shown_by m keys bits n) → Outdated m s keys' bits' r summary last.key
-  restore_outdated summary few counts =
-      subst (λ κ. Outdated m s keys' bits' r summary κ) (sym (key-is a last is))
-      (put_outdated m s (last_key (records_of log_keys log_values in_force)) (picture_of m (last_content (records_of log_keys log_values in_force))) put_there summary a.deepest few a.valid counts)
+  -- it is a list again
+  pub restore_own : OwnList m keys' bits' r
+  restore_own = new_own m _ put_there
 
-  -- and counted anew it is that of the restored picture
-  pub restore_counted : (summary' : List ℕ) → summary' ≡ summary_of m s (shown_by m keys' bits' r)
-      → summary' ≡ summary_of m s (restored_picture m (records_of keys bits n) (records_of log_keys log_values in_force))
-  restore_counted summary' e =
-      put_counted m s (last_key (records_of log_keys log_values in_force))
-      (picture_of m (last_content (records_of log_keys log_values in_force))) put_there summary' e
-      ∙ ap (summary_of m s) (sym (restored_single m (records_of keys bits n) (records_of log_keys log_values in_force) a.single))
+  module _ {list : Accepted} (t : Taken m keys' bits' r list) where
+    pub restore_outdated : (summary : List ℕ) → s ≤ slot_limit → summary ≡ summary_of m s (shown_by m keys bits n) → Outdated list s summary last.key
+    restore_outdated summary few counts =
+        subst (λ κ. Outdated list s summary κ) (sym (key-is a last is))
+        (put_outdated m s (last_key (records_of log_keys log_values in_force)) (picture_of m (last_content (records_of log_keys log_values in_force))) put_there t summary few a.valid counts)
+
+    -- and counted anew it is that of the restored picture
+    pub restore_counted : (summary' : List ℕ) → summary' ≡ summary_of list.m s (picture_listed list)
+        → summary' ≡ summary_of m s (restored_picture m (records_of keys bits n) (records_of log_keys log_values in_force))
+    restore_counted summary' e =
+        put_counted m s (last_key (records_of log_keys log_values in_force))
+        (picture_of m (last_content (records_of log_keys log_values in_force))) put_there t summary' e
+        ∙ ap (summary_of m s) (sym (restored_single m (records_of keys bits n) (records_of log_keys log_values in_force) a.single))

@@ -1,3 +1,4 @@
+pub mod Planning
 pub mod TakingBackCall
 pub mod GroupCall
 pub mod RedoCall

@@ -2,6 +2,7 @@
 #![tactic(auto)]
 
 pub mod group;
+pub mod planning;
 pub mod redo;
 pub mod redo_group;
 pub mod take_back;

@@ -1,83 +1,87 @@
--- `redo::redo_entry` meets its contract: a refusal leaves all as it is; else the block is filled again, and the summary is counted anew.
+-- Where there is no room all is left as it is; else the block is filled again, and the summary is counted anew.
+use mathlib.Core.Path.{refl, sym, ap, ◌∙◌}
 use Prim.Native.Nat.{◌+◌}
-use mathlib.Core.Path.{sym, ap, ◌∙◌}
 use native.Mathlib.Omega.{arith}
+use Rattle.std.specs.Prelude.{Some}
+use Rattle.std.proofs.lemmas.Result.{err_from_is_err_and}
+use Rattle.keys.specs.Key.{valid_key}
+use Rattle.definitions.proofs.Refused.{refusal_some}
 use Rattle.laws.proofs.Edits.{edit_refused}
-use Rattle.edit.proofs.Decided.{refused, granted}
-use Rattle.edit.proofs.EditCallTables.{room_fits, passed_settings, passed_own, passed_summary}
-use Rattle.edit.proofs.PaintPlan.{paint_outdated}
-use Rattle.undo.proofs.RedoPlan.{redo_paintable, end_within, redone_is, redo_paints, redo_made, redo_counted}
+use Rattle.list.proofs.Taken.{taken_length}
+use Rattle.edit.proofs.EditCallTables.{room_told, room_clear, passed_settings, passed_own, passed_summary}
+use Rattle.edit.proofs.PaintPlan.{paint_found, paint_planned, paint_own, paint_outdated}
+use Rattle.undo.proofs.PlanFound.{plan_taken, plan_small, length_taken}
+use Rattle.undo.proofs.RedoPlan.{end_within, redo_paintable, redone_is, redo_made, redo_counted}
 use Rattle.undo.proofs.RedoTable.{redo_sheet, to-redo, painted_row, redo_done}
-use borrow.Author.Rules.{rules}
 use Rattle.undo.proofs.redo.redo_entry.Goals as goal
 
-pub next_entry-entry-requires : goal.next_entry-entry-requires
-next_entry-entry-requires c =
-    (to-redo c.requires.0, c.requires.1, c.requires.2)
+pub next_entry-next-requires : goal.next_entry-next-requires
+next_entry-next-requires c = (to-redo c.requires.0, c.requires.1, c.requires.2)
 
-pub decide-decision-requires : goal.decide-decision-requires
-decide-decision-requires c =
-    let log = to-redo c.requires.0 in
-    let rows = redo_sheet c.requires.0 in
-    redo_paintable log _ c.requires.2 c.requires.1 _ c.next_entry-entry.ensures _ _ _ (passed_settings rows).deep (passed_own rows)
+pub taken-former-requires : goal.taken-former-requires
+taken-former-requires c = let rows = redo_sheet c.requires.0 in ((passed_settings rows).deep, passed_own rows)
 
-pub enum_known-decision : goal.enum_known-decision
-enum_known-decision c = search rules
+pub power_of_two-requires : goal.power_of_two-requires
+power_of_two-requires c =
+    let paints = redo_paintable (to-redo c.requires.0) _ c.requires.2 c.requires.1 _ c.next_entry-next.ensures c.args.bits.now c.args.n c.args.keys.now (passed_settings (redo_sheet c.requires.0)).deep (passed_own (redo_sheet c.requires.0)) in
+    omega (arith, paints.feature)
 
-pub shape_of-keys-in-Refused : goal.shape_of-keys-in-Refused
-shape_of-keys-in-Refused c = search rules
+pub plan_within-requires-clause-valid : goal.plan_within-requires-clause-valid
+plan_within-requires-clause-valid c =
+    let paints = redo_paintable (to-redo c.requires.0) _ c.requires.2 c.requires.1 _ c.next_entry-next.ensures c.args.bits.now c.args.n c.args.keys.now (passed_settings (redo_sheet c.requires.0)).deep (passed_own (redo_sheet c.requires.0)) in
+    ap (λ m. valid_key m c.next_entry-next.result.key) c.taken-former.ensures.map ∙ paints.valid
 
-pub shape_of-bits-in-Refused : goal.shape_of-bits-in-Refused
-shape_of-bits-in-Refused c = search rules
+pub plan_within-requires-clause-small : goal.plan_within-requires-clause-small
+plan_within-requires-clause-small c =
+    let paints = redo_paintable (to-redo c.requires.0) _ c.requires.2 c.requires.1 _ c.next_entry-next.ensures c.args.bits.now c.args.n c.args.keys.now (passed_settings (redo_sheet c.requires.0)).deep (passed_own (redo_sheet c.requires.0)) in
+    let h = plan_small c.taken-former.ensures c.next_entry-next.result.key 1 (Some c.power_of_two.result) (paint_planned paints refl) (paint_found _ _ _ _ _ _ c.power_of_two.ensures refl) in
+    (h.0, h.1, omega (arith, taken_length c.taken-former.ensures, c.taken-former.ensures.room_for, c.well_formed))
 
-pub returns-in-Refused : goal.returns-in-Refused
-returns-in-Refused c =
-    let told = refused _ _ _ _ c.decide-decision.ensures _ c.in-Refused.is in
-    edit_refused _ _ (told.0 ∙ painted_row c.requires.0 _ _ (redone_is _ _ _ c.requires.1 _ c.next_entry-entry.ensures)) told.1
+pub returns-in_err-found : goal.returns-in_err-found
+returns-in_err-found c =
+    let paints = redo_paintable (to-redo c.requires.0) _ c.requires.2 c.requires.1 _ c.next_entry-next.ensures c.args.bits.now c.args.n c.args.keys.now (passed_settings (redo_sheet c.requires.0)).deep (passed_own (redo_sheet c.requires.0)) in
+    let size = length_taken c.taken-former.ensures c.next_entry-next.result.key 1 (Some c.power_of_two.result) (paint_planned paints refl) (paint_found _ _ _ _ _ _ c.power_of_two.ensures refl) refl in
+    let p = err_from_is_err_and c.from_residual.result c.from_residual.ensures.1 in
+    rw (p.1, p.2)
+    (edit_refused _ _
+    (c.in_err-found.ensures.0 ∙ room_told _ _ _ _ size (omega (arith, c.in_err-found.ensures.1, c.smaller-room.ensures)) ∙ painted_row c.requires.0 _ _ (redone_is _ _ _ c.requires.1 _ c.next_entry-next.ensures))
+    (refusal_some c.in_err-found.field-0.0))
 
-pub enum_known-decision-in-Granted-1 : goal.enum_known-decision-in-Granted-1
-enum_known-decision-in-Granted-1 c = search rules
+pub fill-after-requires-clause-paintable : goal.fill-after-requires-clause-paintable
+fill-after-requires-clause-paintable c =
+    redo_paintable (to-redo c.requires.0) _ c.requires.2 c.requires.1 _ c.next_entry-next.ensures c.args.bits.now c.args.n c.args.keys.now (passed_settings (redo_sheet c.requires.0)).deep (passed_own (redo_sheet c.requires.0))
 
-pub fill-after-requires : goal.fill-after-requires
-fill-after-requires c =
-    let log = to-redo c.requires.0 in
-    let rows = redo_sheet c.requires.0 in
-    let g = granted _ _ _ _ c.decide-decision.ensures _ _ c.in-Granted.is in
-    let next = g.1 ∙ c.next_entry-entry.ensures in
-    let paints = redo_paintable log _ c.requires.2 c.requires.1 _ next _ _ _ (passed_settings rows).deep (passed_own rows) in
-    let room = redo_paints _ _ _ _ g.1 _ _ g.2 (room_fits _ _ _ g.0) in
-    record { paintable = paints; found_value = room.0; feature_len_bound = room.1 }
+pub fill-after-requires-clause-found_value : goal.fill-after-requires-clause-found_value
+fill-after-requires-clause-found_value c = c.in_ok-found.ensures.0 ∙ plan_taken c.taken-former.ensures c.next_entry-next.result.key 1 (Some c.power_of_two.result) ∙ paint_found _ _ _ _ _ _ c.power_of_two.ensures refl
+
+pub fill-after-requires-clause-feature_len_bound : goal.fill-after-requires-clause-feature_len_bound
+fill-after-requires-clause-feature_len_bound c =
+    let paints = redo_paintable (to-redo c.requires.0) _ c.requires.2 c.requires.1 _ c.next_entry-next.ensures c.args.bits.now c.args.n c.args.keys.now (passed_settings (redo_sheet c.requires.0)).deep (passed_own (redo_sheet c.requires.0)) in
+    let size = length_taken c.taken-former.ensures c.next_entry-next.result.key 1 (Some c.power_of_two.result) (paint_planned paints refl) (paint_found _ _ _ _ _ _ c.power_of_two.ensures refl) refl in
+    omega (arith, size, c.in_ok-found.ensures.1, c.smaller-room.ensures)
+
+pub taken-changed-requires : goal.taken-changed-requires
+taken-changed-requires c =
+    let paints = redo_paintable (to-redo c.requires.0) _ c.requires.2 c.requires.1 _ c.next_entry-next.ensures c.args.bits.now c.args.n c.args.keys.now (passed_settings (redo_sheet c.requires.0)).deep (passed_own (redo_sheet c.requires.0)) in
+    (paints.deepest, paint_own c.args.s paints c.fill-after.ensures)
 
 pub recount-requires : goal.recount-requires
 recount-requires c =
-    let log = to-redo c.requires.0 in
+    let paints = redo_paintable (to-redo c.requires.0) _ c.requires.2 c.requires.1 _ c.next_entry-next.ensures c.args.bits.now c.args.n c.args.keys.now (passed_settings (redo_sheet c.requires.0)).deep (passed_own (redo_sheet c.requires.0)) in
     let rows = redo_sheet c.requires.0 in
-    let g = granted _ _ _ _ c.decide-decision.ensures _ _ c.in-Granted.is in
-    let next = g.1 ∙ c.next_entry-entry.ensures in
-    let paints = redo_paintable log _ c.requires.2 c.requires.1 _ next _ _ _ (passed_settings rows).deep (passed_own rows) in
-    paint_outdated _ paints c.fill-after.ensures _ (let few = (passed_settings rows).few in omega arith) (passed_summary rows)
+    let few = (passed_settings rows).few in
+    paint_outdated c.args.s paints c.fill-after.ensures c.taken-changed.ensures _ (omega arith) (passed_summary rows)
 
-pub overflow_add-now : goal.overflow_add-now
-overflow_add-now c =
+pub overflow_add-result : goal.overflow_add-result
+overflow_add-result c =
     let log = to-redo c.requires.0 in
     omega (arith, end_within log _ c.requires.2, log.whole.in_keys, c.well_formed)
 
-pub shape_of-keys-in-Granted : goal.shape_of-keys-in-Granted
-shape_of-keys-in-Granted c = search rules
-
-pub shape_of-bits-in-Granted : goal.shape_of-bits-in-Granted
-shape_of-bits-in-Granted c = search rules
-
-pub shape_of-summary-in-Granted : goal.shape_of-summary-in-Granted
-shape_of-summary-in-Granted c = search rules
-
-pub returns-in-Granted : goal.returns-in-Granted
-returns-in-Granted c =
-    let log = to-redo c.requires.0 in
-    let rows = redo_sheet c.requires.0 in
-    let g = granted _ _ _ _ c.decide-decision.ensures _ _ c.in-Granted.is in
-    let next = g.1 ∙ c.next_entry-entry.ensures in
-    let paints = redo_paintable log _ c.requires.2 c.requires.1 _ next _ _ _ (passed_settings rows).deep (passed_own rows) in
-    redo_done (sym (painted_row c.requires.0 _ _ (redone_is _ _ _ c.requires.1 _ c.next_entry-entry.ensures)) ∙ g.0) (ap (λ x. c.args.in_force + x) c.requires.2)
-    (redo_made _ c.requires.1 _ next paints c.fill-after.ensures)
-    (redo_counted _ c.requires.1 _ next paints c.fill-after.ensures _ _ c.recount.ensures)
+pub returns : goal.returns
+returns c =
+    let paints = redo_paintable (to-redo c.requires.0) _ c.requires.2 c.requires.1 _ c.next_entry-next.ensures c.args.bits.now c.args.n c.args.keys.now (passed_settings (redo_sheet c.requires.0)).deep (passed_own (redo_sheet c.requires.0)) in
+    let size = length_taken c.taken-former.ensures c.next_entry-next.result.key 1 (Some c.power_of_two.result) (paint_planned paints refl) (paint_found _ _ _ _ _ _ c.power_of_two.ensures refl) refl in
+    redo_done (sym (painted_row c.requires.0 _ _ (redone_is _ _ _ c.requires.1 _ c.next_entry-next.ensures)) ∙ sym (room_clear _ _ _ _ size (omega (arith, c.in_ok-found.ensures.1, c.smaller-room.ensures))))
+    (ap (λ x. c.args.in_force + x) c.requires.2)
+    (redo_made _ c.requires.1 _ c.next_entry-next.ensures paints c.fill-after.ensures)
+    (redo_counted _ c.requires.1 _ c.next_entry-next.ensures paints c.fill-after.ensures _ c.taken-changed.ensures _ c.recount.ensures)

@@ -1,27 +1,18 @@
--- `take_back_group::take_group_back` meets its contract: the last group in force goes back, and its first place tells what is in force then.
-use Rattle.undo.proofs.StepAnswers.{step_answered}
-use Rattle.undo.proofs.TakingBackTable.{take-sheet, take_own}
-use Rattle.undo.proofs.TakingBackGroup.{take-kept, take-group}
-use borrow.Author.Rules.{rules}
+-- The last group in force goes back, and its first place tells what is in force then.
+use Rattle.std.proofs.lemmas.Result.{err_from_is_err_and}
+use Rattle.undo.proofs.TakingBackGroup.{take-kept, take-group, group_taken, group_left}
 use Rattle.undo.proofs.take_back_group.take_group_back.Goals as goal
 
-pub step_group-stepped-requires : goal.step_group-stepped-requires
-step_group-stepped-requires c = let first = c.before in (take-group first.requires.0 first.requires.1, take-kept first.requires.0)
+pub last_run-run-requires : goal.last_run-run-requires
+last_run-run-requires c = take-group c.requires.0 c.requires.1
 
-pub answer-requires : goal.answer-requires
-answer-requires c = search rules
+pub apply-requires : goal.apply-requires
+apply-requires c = take-kept c.requires.0
 
-pub shape_of-keys : goal.shape_of-keys
-shape_of-keys c = search rules
-
-pub shape_of-bits : goal.shape_of-bits
-shape_of-bits c = search rules
-
-pub shape_of-summary : goal.shape_of-summary
-shape_of-summary c = search rules
+pub returns-in_err-after : goal.returns-in_err-after
+returns-in_err-after c =
+    let p = err_from_is_err_and c.from_residual.result c.from_residual.ensures.1 in
+    rw (p.1, p.2) (group_left c.requires.0 c.last_run-run.ensures c.in_err-after.field-0.0 c.in_err-after.ensures)
 
 pub returns : goal.returns
-returns c =
-    let stepped = c.before in
-    let t = stepped.requires.0 in
-    step_answered _ _ _ _ (take-sheet t) (take_own t) stepped.step_group-stepped.ensures.applied _ c.answer.ensures stepped.step_group-stepped.ensures.start_is
+returns c = group_taken c.requires.0 c.last_run-run.ensures c.in_ok-after.ensures

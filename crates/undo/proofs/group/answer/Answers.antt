@@ -1,9 +1,0 @@
--- `group::answer` meets its contract: no records are told where there was no room.
-use borrow.Author.Tests.{eq-eqb, ne_eqb}
-use Rattle.undo.proofs.group.answer.Goals as goal
-
-pub returns-then-after-eq0 : goal.returns-then-after-eq0
-returns-then-after-eq0 c = simp (eq-eqb _ _ c.if-after-eq0.true)
-
-pub returns : goal.returns
-returns c = simp (ne_eqb _ _ c.if-after-eq0.false)
