@@ -1,7 +1,7 @@
 -- The loop of the check over a node's children, with the records read from a file: each step is that over two slices, where the slices hold the
 -- file's keys and bitstrings. Rests on ReadBytes, the records of two slices and the laws of the check.
 use Prim.Native.Nat.{ℕ, ◌+◌, ◌*◌, ◌/◌, ◌^◌, ◌≤◌, ◌<◌}
-use mathlib.Core.Path.{◌≡◌, refl, sym, ap, ◌∙◌}
+use mathlib.Core.Path.{◌≡◌, sym, ap, ◌∙◌}
 use mathlib.Core.Bool.{true, false}
 use mathlib.Core.List.{List}
 use native.Mathlib.Omega.{arith}
@@ -18,11 +18,6 @@ use Rattle.file.proofs.ReadBytes.{key_read, value_read, keys_many, bits_many}
 abbrev pub TurnAnswered : ℕ → ℕ → List ℕ → ℕ → ℕ → ℕ → ℕ → ℕ → Type 0
 TurnAnswered w n file first key own step r =
     (r ≤ n) × ((k : ℕ) → step ≡ step_under k → r ≡ rest_place n (after_node k key own (drop first (records_at w n file))))
-
--- 25 is the step under a block of height 3
-pub step_twenty_five : 25 ≡ step_under 3
-unfolding step_under
-step_twenty_five = refl
 
 -- there are as many keys as records
 pub many : (w n : ℕ) (file : List ℕ) → length (keys_at w n file) ≡ n
@@ -66,11 +61,12 @@ pub record PassedIn (w n : ℕ) (file : List ℕ) (first key own step next union
   pub reached : next ≤ n
   pub passed : TurnPassed (keys_at w n file) (values_at w n file) first key own step next union digit
 
--- the same where the code counts by the next child's key
+-- the same where the code goes by the next child's key; past the first child the place is no 0
 pub record ChildrenIn (w n : ℕ) (file : List ℕ) (first key own step next union child : ℕ) : Type 0 where
   pub digit : ℕ
   pub child_is : child ≡ key + digit * step
   pub passed : PassedIn w n file first key own step next union digit
+  pub past : 1 < digit → 0 < next
 
 -- before the first turn nothing has been passed
 pub begins_in : (w n : ℕ) (file : List ℕ) (first key own step : ℕ)

@@ -9,6 +9,7 @@ pub mod ReadBytes
 pub mod Fits
 -- the check of a file's records
 pub mod FileTurn
+pub mod FileAfter
 pub mod FilePixels
 pub mod FileList
 -- the calls: what is accepted, and each way out

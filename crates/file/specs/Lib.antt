@@ -1,3 +1,4 @@
 pub mod Layout
 pub mod Room
 pub mod Head
+pub mod After

@@ -1,5 +1,5 @@
 // The layout of a file (specification S15): how many bytes a bitstring has, where a record lies, and a record read and
-// written. Only this file knows it.
+// written. Only this file knows it. A width is a number, 2 or 4, and no enum of the two: it counts bytes, and places are summed from it.
 ghost use Rattle.std.specs.Prelude.{◌≡◌, ◌+◌, ◌^◌, ◌≤◌, ◌<◌, length};
 ghost use Rattle.std.proofs.lemmas.List.Edits.{sets};
 ghost use Rattle.definitions.specs.List.{record_of};

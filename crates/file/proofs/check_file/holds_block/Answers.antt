@@ -1,8 +1,10 @@
--- `check_file::holds_block`: each way out answers what the definition does there. Rests on FileList.
+-- `check_file::holds_block`: each way out answers what the definition does there. Rests on FileList, FileAfter and AfterNode of crate list.
 use Rattle.std.proofs.Common.{arith, sym, ◌∙◌}
 use borrow.Author.Tests.{ltb-true, ltb-false}
 use Rattle.keys.proofs.LastZeros.{keys_height}
 use Rattle.list.proofs.Content.{step_is_under, keys_fit}
+use Rattle.list.proofs.AfterNode.{answer_is}
+use Rattle.file.proofs.FileAfter.{answered_in}
 use Rattle.file.proofs.FileList.{none_in_file, other_first, large_first, leaf_first, node_first}
 use Rattle.file.proofs.check_file.holds_block.Goals as goal
 
@@ -28,9 +30,11 @@ after_node-requires c =
 
 pub returns : goal.returns
 returns c =
-    node_first _ _ _ _ _ _ c.requires.3 c.if-n-eq0.false _ c.key_at.ensures c.if-key_at-key.false _ c.bits_at-own.ensures
+    c.eq.ensures
+    ∙ answer_is c.after_node.result c.args.n c.if-n-eq0.false
+    ∙ node_first _ _ _ _ _ _ c.requires.3 c.if-n-eq0.false _ c.key_at.ensures c.if-key_at-key.false _ c.bits_at-own.ensures
     (ltb-true _ _ (sym c.slots_below.ensures ∙ c.if-not-slots_below.false))
     _ _
     (sym c.has_one_slot.ensures ∙ c.if-has_one_slot.false)
     (step_is_under _ _ _ (c.keys_in-step.ensures ∙ keys_height _ _ c.requires.3))
-    c.after_node.ensures
+    (answered_in c.after_node.ensures)
