@@ -14,6 +14,7 @@ pub fn count_records(m: u32, nodes: &[u8], leaves: &[u8]) -> Option<usize>
     let mut key = 0;
     let mut i: usize = 0;
     let mut j: usize = 0;
+    // The key goes from block to block, so it is no index that a range could count.
     while key < end {
         let passed = next::pass(m, key, nodes, leaves, i, j)?;
         key = passed.key;

@@ -58,7 +58,7 @@ pub fn write_bit_strings(
     };
     let node_bytes = (n + 7) / 8;
     let leaf_bytes = (n - n / 4 + 7) / 8;
-    if (nodes.len() < node_bytes) | (leaves.len() < leaf_bytes) {
+    if nodes.len() < node_bytes || leaves.len() < leaf_bytes {
         return Strings {
             refusal: Refusal::AnswerRoom(node_bytes as u64).into(),
             node_bytes: node_bytes as u64,

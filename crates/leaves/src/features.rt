@@ -6,7 +6,8 @@ ghost use Rattle.list.specs.Check.{one_slot};
 
 use list::feature;
 
-// Some feature is s or more. It reads on after the first one, so that the loop has no way out and works many at a time.
+// Some feature is s or more. It reads on after the first one, so that the loop has no way out and works many at a time. Build's has_bad_pixel is the
+// same over bytes: one over both would need a clause on widened numbers, and read no plainer than these few lines.
 pub fn has_bad_feature(s: u32, features: &[u32]) -> bool
     ensures { result ≡ bad_pixel s features.now }
 {

@@ -50,7 +50,8 @@ pub fn standing(
     Ok(list.stand(key))
 }
 
-// Where the part of the key slice that holds a block starts, and how many places it has: a listed block's records, or the leaf's one.
+// Where the part of the key slice that holds a block starts, and how many places it has: a listed block's records, or the leaf's one. A refused call
+// gives an empty part at 0, since C is told no refusal here.
 pub fn part_span(m: u32, s: u32, keys: &[u32], bits: &[u32], n: usize, key: u32) -> Span
     ensures { result ≡ part_span m s keys.now bits.now n key }
 {

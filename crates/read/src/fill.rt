@@ -27,7 +27,7 @@ fn fill_row(raster: &mut [u8], from: usize, until: usize, feature: u8)
     raster[from..until].fill(feature);
 }
 
-// A square whose first pixel is at a place, in a raster whose rows have the given width.
+// A square whose first pixel is at a place, in a raster whose rows have the given width. Its side is known only when this runs, so it is no type.
 fn fill_square(raster: &mut [u8], wide: usize, place: usize, side: usize, feature: u8)
     requires { (place % wide + side ≤ wide) × ((place / wide + side) * wide ≤ length raster.old) × (0 < wide) }
     ensures { raster.new ≡ rectangle_painted wide (λ a b. feature) (place / wide) (place % wide) side side raster.old }
@@ -174,7 +174,7 @@ fn fill_quadrants<B: Block>(
     next
 }
 
-// The same of any side. A leaf among the four children is filled here, so that only nodes are called for.
+// The node of any side, known only when this runs. A leaf among the four children is filled here, so that only nodes are called for.
 fn fill_node(
     bits: &[u32],
     raster: &mut [u8],

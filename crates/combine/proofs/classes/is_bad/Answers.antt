@@ -1,8 +1,5 @@
 -- `classes::is_bad`: its two tests are those of refusal 25.
 use mathlib.Core.Path.{◌∙◌}
-use native.Mathlib.Omega.{arith}
-use native.Mathlib.Nat.{mul-le-mul}
-use borrow.Author.Rules.{rules}
 use Rattle.combine.proofs.Table.{table_short, table_long}
 use Rattle.combine.proofs.classes.is_bad.Goals as goal
 

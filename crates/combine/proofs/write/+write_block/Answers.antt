@@ -4,7 +4,6 @@ use Prim.Native.Nat.{ℕ, ◌+◌, ◌^◌, ◌≤◌, ◌<◌}
 use mathlib.Core.List.{List}
 use mathlib.Core.Path.{◌≡◌}
 use native.Mathlib.Omega.{arith}
-use borrow.Author.Rules.{rules}
 use Rattle.keys.specs.Span.{child_span}
 use Rattle.keys.specs.declared.span.KeySpan.{KeySpan}
 use Rattle.keys.proofs.SpanChild.{child_fewer}

@@ -1,16 +1,11 @@
 -- `combine::combine_ready`: too little room leaves all as it was, and else the records below the root and the root's own are the whole list. Rests on
 -- WholeLists.
-use Rattle.std.proofs.Common.{◌≡◌, ◌≤◌, length, sym, ◌∙◌, arith}
-use borrow.Author.Tests.{leb-true, leb-false}
+use Rattle.std.proofs.Common.{◌≤◌, length, sym, ◌∙◌, arith}
+use borrow.Author.Tests.{leb-true}
 use Rattle.definitions.specs.Read.{room}
 use Rattle.combine.specs.Ready.{list_combined}
-use Rattle.combine.proofs.WholeLists.{no_room, root_fits, root_places, has_answer}
+use Rattle.combine.proofs.WholeLists.{root_fits, root_places, has_answer}
 use Rattle.combine.proofs.combine_ready.Goals as goal
-
-pub returns-then-not-has_room : goal.returns-then-not-has_room
-returns-then-not-has_room c =
-    let h = leb-false _ _ (sym c.has_room.ensures ∙ c.if-not-has_room.true) in
-    no_room c.requires (omega arith)
 
 pub write_block-root-requires : goal.write_block-root-requires
 write_block-root-requires c =

@@ -1,11 +1,8 @@
 -- `combine::has_room`: the result has fewer records than the two lists together, and else they are counted. Rests on WholeLists.
-use Rattle.std.proofs.Common.{length, leb, sym, ap, arith}
+use Rattle.std.proofs.Common.{leb, sym, ap, arith}
 use borrow.Author.Tests.{le-leb}
-use Rattle.combine.proofs.WholeLists.{root_asked, root_count, few_records, result_most}
+use Rattle.combine.proofs.WholeLists.{root_asked, root_count, result_most}
 use Rattle.combine.proofs.has_room.Goals as goal
-
-pub overflow_add-first : goal.overflow_add-first
-overflow_add-first c = let h = few_records c.requires in omega arith
 
 pub overflow_sub-first : goal.overflow_sub-first
 overflow_sub-first c = let h = result_most c.requires in omega arith

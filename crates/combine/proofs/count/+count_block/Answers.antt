@@ -3,7 +3,6 @@ use Prim.Native.Nat.{ℕ, ◌/◌, ◌<◌}
 use mathlib.Core.List.{List}
 use mathlib.Core.Path.{◌≡◌}
 use native.Mathlib.Omega.{arith}
-use borrow.Author.Rules.{rules}
 use Rattle.combine.specs.Combining.{BothEntered, CombineAsked}
 use Rattle.combine.specs.declared.cursor.Pair.{Pair}
 use Rattle.combine.proofs.TwoLeaves.{not_both, leaves_slots, leaves_named, leaves_counted}

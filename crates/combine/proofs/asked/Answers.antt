@@ -1,8 +1,7 @@
 -- `combine::asked`: its tests are those of the rows before 9, in the same order. Rests on CombineRefusal and laws' First.
-use Rattle.std.proofs.Common.{◌≡◌, true, false, not, ◌||◌, refl, sym, ap, ◌∙◌}
+use Rattle.std.proofs.Common.{not, refl, sym, ap, ◌∙◌}
 use Rattle.std.proofs.lemmas.Result.{err_from_is_err_and}
 use borrow.Author.Tests.{eq-eqb, ne_eqb}
-use Rattle.definitions.proofs.Refused.{refusal_some}
 use Rattle.laws.proofs.First.{this, later, holds_first, none_first}
 use Rattle.combine.proofs.CombineRefusal.{three_good, list_told, list_good}
 use Rattle.combine.proofs.asked.Goals as goal
@@ -49,6 +48,3 @@ returns-clause-told c =
     let first = list_good _ _ _ _ _ c.in_ok-first.ensures.told in
     let second = list_good _ _ _ _ _ c.in_ok-second.ensures.told in
     sym (none_first _ (good, (ap not (eq-eqb _ _ c.if-m1-m2.false), (first, (second, (sym c.is_bad.ensures ∙ c.if-is_bad.false, tt))))))
-
-pub returns-clause-lists : goal.returns-clause-lists
-returns-clause-lists c = record { first_taken = c.in_ok-first.ensures.list; second_taken = c.in_ok-second.ensures.list }
