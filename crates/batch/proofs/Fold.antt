@@ -11,8 +11,7 @@ use Rattle.keys.proofs.Cases.{equal}
 use Rattle.definitions.specs.Calls.Batch.{refusal_to, value_to}
 use Rattle.definitions.specs.declared.Question.{Question}
 use Rattle.laws.proofs.OneByOne.{no_question}
-use Rattle.batch.specs.declared.step.Reply.{Reply}
-use Rattle.batch.specs.Run.{Answering, answering_of, at_place, reply_of, answered, batch_step, batch_run, BatchReady}
+use Rattle.batch.specs.Run.{ReplyNumbers, Answering, answering_of, at_place, reply_of, answered, batch_step, batch_run, BatchReady}
 
 module _ (keys bits : List ℕ) where
   abbrev first : ℕ → List Question → Answering → Answering
@@ -28,7 +27,7 @@ module _ (keys bits : List ℕ) where
   step_stays q p h = rw (ne_eqb p.state.refusal 0 h)
 
   -- what is left when the reply is put at its place
-  pub step_put : (q : Question) (p : Answering) → p.state.refusal ≡ 0 → (reply : Reply) → reply ≡ reply_of p.state.m p.state.s keys bits p.state.n q
+  pub step_put : (q : Question) (p : Answering) → p.state.refusal ≡ 0 → (reply : ReplyNumbers) → reply ≡ reply_of p.state.m p.state.s keys bits p.state.n q
       → (l v : List ℕ)
       → l ≡ set p.refusals p.state.place reply.refusal
       → v ≡ set p.values p.state.place reply.value

@@ -2,7 +2,7 @@
 -- laws' OneByOne.
 use Prim.Native.Nat.{ℕ, ◌≤◌, ◌<◌}
 use mathlib.Core.Path.{◌≡◌, refl, sym, ap, ◌∙◌}
-use mathlib.Core.Bool.{true, false, not}
+use mathlib.Core.Bool.{Bool, true, false, not, cond}
 use mathlib.Core.List.{List}
 use native.Mathlib.Omega.{arith}
 use Rattle.keys.proofs.Cases.{equal}
@@ -20,8 +20,7 @@ use Rattle.laws.proofs.OneByOne.{asks_exist, asks_report}
 use Rattle.list.specs.Own.{shown_by}
 use Rattle.window.proofs.Tables.{exist_goes_on, exist_feature, exist_none}
 use Rattle.window.proofs.Answers.{report_refused, report_found, exist_refused, exist_yes, exist_no}
-use Rattle.batch.specs.Run.{AcceptedMap, reply_of}
-use Rattle.batch.specs.declared.step.Reply.{Reply}
+use Rattle.batch.specs.Run.{ReplyNumbers, AcceptedMap, reply_of}
 
 module _ (m s : ℕ) (keys bits : List ℕ) (n : ℕ) (q : Question) (w : Window) (list : AcceptedMap m s keys bits n)
     (is : w ≡ clipped_window m q.row q.column q.height q.width) where
@@ -34,7 +33,7 @@ module _ (m s : ℕ) (keys bits : List ℕ) (n : ℕ) (q : Question) (w : Window
   unfolding report_refusal
   window_fine lies = none_first _ (list.settings, (ap not list.list, (ap not lies, tt)))
 
-  replies : {a b : ℕ} → refusal_to m s keys bits n q ≡ a → value_to m s keys bits n q ≡ b → ◌≡◌ {A = Reply} (record { refusal = a; value = b }) (reply_of m s keys bits n q)
+  replies : {a b : ℕ} → refusal_to m s keys bits n q ≡ a → value_to m s keys bits n q ≡ b → ◌≡◌ {A = ReplyNumbers} (record { refusal = a; value = b }) (reply_of m s keys bits n q)
   replies e f i = record { refusal = sym e i; value = sym f i }
 
   -- the single call's answer is the question's
@@ -72,3 +71,9 @@ module _ (m s : ℕ) (keys bits : List ℕ) (n : ℕ) (q : Question) (w : Window
   pub reply_no : is_window m w ≡ true → q.report ≡ 0 → q.feature < s → exist_in (shown_by m keys bits n) w q.feature ≡ false
       → record { refusal = 0; value = 0 } ≡ reply_of m s keys bits n q
   reply_no lies h low e = of_exist h _ (exist_no m s keys bits n w q.feature (sym (exist_none m s keys bits n w q.feature (window_fine lies) low)) e)
+
+  -- what exist answers
+  pub reply_exist : is_window m w ≡ true → q.report ≡ 0 → q.feature < s → (b : Bool) → b ≡ exist_in (shown_by m keys bits n) w q.feature
+      → record { refusal = 0; value = cond b 1 0 } ≡ reply_of m s keys bits n q
+  reply_exist lies h low true e = reply_yes lies h low (sym e)
+  reply_exist lies h low false e = reply_no lies h low (sym e)

@@ -1,13 +1,31 @@
 -- A batch, as the code goes: how it begins, what a question does to the state and to the two answer slices, and what it answers in the end. Only contracts
 -- need these; that they give the batch of specification S9 is proved in proofs/.
-use Rattle.std.specs.Prelude.{ℕ, ◌+◌, ◌≤◌, min, ◌≡◌, true, false, cond, List, [], ◌∷◌, length, set, ltb, eqb}
+use Rattle.std.specs.Prelude.{ℕ, ◌+◌, ◌≤◌, min, ◌≡◌, true, false, cond, Result, Ok, Err, List, [], ◌∷◌, length, set, ltb, eqb}
 use Rattle.definitions.specs.Read.{is_list}
 use Rattle.definitions.specs.Refusal.{◌gives◌, first, accepted, bad_settings, no_list}
 use Rattle.definitions.specs.Calls.Batch.{refusal_to, value_to}
 use Rattle.definitions.specs.declared.Question.{Question}
 use Rattle.definitions.specs.declared.Counted.{Counted}
-use Rattle.batch.specs.declared.begin.BatchState.{BatchState}
-use Rattle.batch.specs.declared.step.Reply.{Reply}
+use Rattle.definitions.specs.declared.refusal.Refusal.{Refusal}
+use Rattle.definitions.specs.Refused.{refusal_number}
+
+-- where a batch stands, in numbers: the refusal's number, or 0; how many questions there are, and the place of the next
+pub record BatchNumbers : Type 0 where
+  pub m : ℕ
+  pub s : ℕ
+  pub n : ℕ
+  pub refusal : ℕ
+  pub questions : ℕ
+  pub place : ℕ
+
+-- what a question is answered, in numbers: the refusal's number, or 0, and the value, which is 0 where it is refused
+pub record ReplyNumbers : Type 0 where
+  pub refusal : ℕ
+  pub value : ℕ
+
+abbrev pub reply_told : Result ℕ Refusal → ReplyNumbers
+reply_told (Ok value) = record { refusal = 0; value = value }
+reply_told (Err refusal) = record { refusal = refusal_number refusal; value = 0 }
 
 -- settings and list are accepted
 pub record AcceptedMap (m s : ℕ) (keys bits : List ℕ) (n : ℕ) : Type 0 where
@@ -16,11 +34,11 @@ pub record AcceptedMap (m s : ℕ) (keys bits : List ℕ) (n : ℕ) : Type 0 whe
 
 -- the state, and what the two answer slices hold
 pub record Answering : Type 0 where
-  pub state : BatchState
+  pub state : BatchNumbers
   pub refusals : List ℕ
   pub values : List ℕ
 
-abbrev pub answering_of : BatchState → List ℕ → List ℕ → Answering
+abbrev pub answering_of : BatchNumbers → List ℕ → List ℕ → Answering
 answering_of state refusals values = record { state = state; refusals = refusals; values = values }
 
 unfoldable pub answering_refusal : ℕ → ℕ → List ℕ → List ℕ → ℕ → ℕ → ℕ → ℕ → ℕ
@@ -31,7 +49,7 @@ answering_refusal m s keys bits n questions room_refusals room_values =
     ∷ ltb (min room_refusals room_values) questions gives 12
     ∷ [])
 
-abbrev pub answering_begins : ℕ → ℕ → List ℕ → List ℕ → ℕ → ℕ → ℕ → ℕ → BatchState
+abbrev pub answering_begins : ℕ → ℕ → List ℕ → List ℕ → ℕ → ℕ → ℕ → ℕ → BatchNumbers
 answering_begins m s keys bits n questions room_refusals room_values =
     record {
       m = m;
@@ -42,13 +60,17 @@ answering_begins m s keys bits n questions room_refusals room_values =
       place = 0;
     }
 
+-- an accepted batch that begins
+abbrev pub accepted_begins : (m s n questions : ℕ) → BatchNumbers
+accepted_begins m s n questions = record { m = m; s = s; n = n; refusal = 0; questions = questions; place = 0 }
+
 -- the same batch, with its next place
-abbrev pub at_place : ℕ → BatchState → BatchState
+abbrev pub at_place : ℕ → BatchNumbers → BatchNumbers
 at_place place st =
     record { m = st.m; s = st.s; n = st.n; refusal = st.refusal; questions = st.questions; place = place }
 
 -- what one question is answered
-abbrev pub reply_of : ℕ → ℕ → List ℕ → List ℕ → ℕ → Question → Reply
+abbrev pub reply_of : ℕ → ℕ → List ℕ → List ℕ → ℕ → Question → ReplyNumbers
 reply_of m s keys bits n q = record { refusal = refusal_to m s keys bits n q; value = value_to m s keys bits n q }
 
 module _ (keys bits : List ℕ) where
@@ -79,6 +101,6 @@ module _ (keys bits : List ℕ) where
     pub fine : p.state.refusal ≡ 0 → BatchFine more p
 
 -- what the call answers
-unfoldable pub answering_ends : BatchState → Counted
+unfoldable pub answering_ends : BatchNumbers → Counted
 answering_ends st =
     record { refusal = st.refusal; count = accepted st.refusal st.questions (cond (eqb st.refusal 12) st.questions 0) }

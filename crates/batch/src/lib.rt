@@ -2,5 +2,6 @@
 #![tactic(auto)]
 
 pub mod begin;
+pub mod call;
 pub mod run;
 pub mod step;
