@@ -24,16 +24,7 @@ pub fn ask_all(
         × (values.new ≡ batch_values m s keys.now bits.now n questions.now refusals.old values.old) }
 {
     let asked = questions.len();
-    begin(
-        m,
-        s,
-        keys,
-        bits,
-        n,
-        asked,
-        refusals.len(),
-        values.len(),
-    )?;
+    begin(m, s, keys, bits, n, asked, refusals.len(), values.len())?;
     run(questions, m, s, keys, bits, n, refusals, values);
     Ok(asked)
 }
