@@ -13,17 +13,17 @@ loop-place-init c = first_turn _ _ _ _ c.requires
 pub reply_to-reply-requires : goal.reply_to-reply-requires
 reply_to-reply-requires c = (c.loop-place.invariant.ready.fine refl).list
 
+pub loop-place-preserved : goal.loop-place-preserved
+loop-place-preserved c =
+    next_turn _ _ _ c.loop-place.invariant _ c.loop-place-test.true
+    (step_put _ _ _ _ refl _ c.reply_to-reply.ensures _ _ c.give_reply.ensures.0 c.give_reply.ensures.1)
+
 pub give_reply-requires : goal.give_reply-requires
 give_reply-requires c =
     let f = (one_comes _ _ _ c.loop-place.invariant c.loop-place-test.true).fine refl in
     let a = f.room_refusals in
     let b = f.room_values in
     (omega arith, omega arith)
-
-pub loop-place-preserved : goal.loop-place-preserved
-loop-place-preserved c =
-    next_turn _ _ _ c.loop-place.invariant _ c.loop-place-test.true
-    (step_put _ _ _ _ refl _ c.reply_to-reply.ensures _ _ c.give_reply.ensures.0 c.give_reply.ensures.1)
 
 pub returns : goal.returns
 returns c =
