@@ -61,7 +61,8 @@ fn grow_all(doing: Doing, at: Places, keys: &mut [u32], bits: &mut [u32])
     grow::grow(doing, root(doing.m), at, keys, bits);
 }
 
-// The list becomes that of the step over its picture. Gives its number of records, which shrinking tells.
+// The list becomes that of the step over its picture. Gives its number of records, which shrinking tells. The slices are the lent ones, which go on behind the
+// list's n records, since the list may grow into them.
 pub fn change(doing: Doing, keys: &mut [u32], bits: &mut [u32], n: usize) -> usize
     requires { Changeable (step_by doing) doing.m keys.old bits.old n }
     ensures { Changed (step_by doing.entry) doing.entry.m n keys.old bits.old keys.new bits.new result }

@@ -21,7 +21,8 @@ fn write_own(key: u32, at: Places, keys: &mut [u32], bits: &mut [u32]) -> Places
 }
 
 // The records of a block, which end before one place, grow to end before another. The last of them has the block's own key exactly where it is the
-// only one, a leaf; of a node it lies under the last quadrant. A node that stays as it is moves as a whole.
+// only one, a leaf; of a node it lies under the last quadrant. A node that stays as it is moves as a whole. The quadrants are four calls, since each ends at the
+// places where the one after it begins.
 pub fn grow(
     doing: Doing,
     block: TreeBlock,

@@ -108,7 +108,8 @@ fn shrink_own(
     last
 }
 
-// The records of a block, which stand from one place on, shrink to stand from another on, at or before it.
+// The records of a block, which stand from one place on, shrink to stand from another on, at or before it. The list ends at n, and the slices go on behind it,
+// where it will grow. The quadrants are four calls, since each begins at the places where the one before ended.
 pub fn shrink(
     doing: Doing,
     block: TreeBlock,

@@ -13,8 +13,8 @@ use keys::block::{TreeBlock, child};
 use keys::power;
 use list::check;
 
-// The bits of a block, and the place of its own record, which lies before the records below it. Before the first place there is none, and a block that is told
-// so, by the place 0, has nothing to write.
+// The bits of a block, and the place of its own record, which lies before the records below it. A block with nothing below it may end at the first place: its own
+// place is then told as the first one too, and nobody writes there.
 #[derive(Clone, Copy)]
 pub struct Foremost {
     pub bits: u32,
@@ -111,7 +111,8 @@ fn settle_four(
     }
 }
 
-// Writes the records below a leaf after the step, and not its own: only its parent knows whether it is listed.
+// Writes the records below a leaf after the step, and not its own: only its parent knows whether it is listed. The quadrants are four calls, since each ends at
+// the place where the one after it begins.
 fn spread(
     doing: Doing,
     own: u32,

@@ -34,7 +34,7 @@ fn known(meeting: Meeting, own: u32, records: usize, log_values: &[u32]) -> Tall
     }
 }
 
-// A leaf after the step: its bits, and how many records it becomes.
+// A leaf after the step: its bits, and how many records it becomes. The quadrants are four calls, as build's sum takes the four by name.
 pub fn tally_leaf(doing: Doing, own: u32, block: TreeBlock) -> Tally
     requires { LeafAsked doing.m own block }
     ensures { Tallied (step_over (step_by doing.entry) (plain (feature_of own))) block.height block.row block.column result.bits result.count }
@@ -79,7 +79,8 @@ pub fn pass_over(
     }
 }
 
-// The records of a block, from a place on, after the step. Those of a node are passed over where one look tells what becomes of it.
+// The records of a block, from a place on, after the step. Those of a node are passed over where one look tells what becomes of it. The quadrants are four
+// calls, since each begins at the place where the one before ended.
 pub fn tally_records(
     doing: Doing,
     block: TreeBlock,

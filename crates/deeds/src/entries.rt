@@ -1,5 +1,6 @@
 // What the entries of a run make of a block. Only keys are compared: an entry's block holds the other, lies inside it, or is apart from it. A content
-// is not looked through where it is the block's own: it is told by its place.
+// is not looked through where it is the block's own: it is told by its place. The loops step from entry to entry, as an entry's end tells its start, and count
+// no index.
 ghost use Rattle.std.specs.Prelude.{◌≡◌, true, ◌≤◌, ◌<◌, length};
 ghost use Rattle.keys.specs.Key.{valid_key};
 ghost use Rattle.keys.specs.Block.{in_interval};

@@ -1,4 +1,5 @@
-// A run of a log: the entries between two of its places. They are read from the end, since an entry's last records say where it begins.
+// A run of a log: the entries between two of its places. They are read from the end, since an entry's last records say where it begins; so the loops step from
+// entry to entry, and count no index.
 ghost use Rattle.std.specs.Prelude.{◌≡◌, true, ◌+◌, ◌^◌, ◌≤◌};
 ghost use Rattle.keys.specs.Child.{KeysEnd};
 ghost use Rattle.deeds.specs.Runs.{EntriesIn, Between, descends, last_first};

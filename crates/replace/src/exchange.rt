@@ -59,7 +59,8 @@ fn insert(
     planted::write_back(keys, bits, at + content.keys.len(), key, top, levels, g);
 }
 
-// The records that the plan names are exchanged for those that the content makes of the block.
+// The records that the plan names are exchanged for those that the content makes of the block. The slices are the lent ones, which go on behind the list's n
+// records, since the list may grow into them.
 pub fn exchange(
     keys: &mut [u32],
     bits: &mut [u32],

@@ -27,7 +27,8 @@ fn child_bits(keys: &[u32], bits: &[u32], own: u32, b: u32, x: u32) -> u32
     if x == own { b } else { bits_at(keys, bits, x) }
 }
 
-// The bits of the block around key with five times as many keys as step says, where the one with step keys has got the bits b.
+// The bits of the block around key with five times as many keys as step says, where the one with step keys has got the bits b. The four children are joined two
+// by two, as the definition of a union has it.
 pub fn parent_bits(keys: &[u32], bits: &[u32], key: u32, b: u32, step: u32) -> u32
     requires sorted { Sorted keys.now (length keys.now) 0 }
     requires paired { length keys.now ≤ length bits.now }

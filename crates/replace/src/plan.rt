@@ -1,7 +1,9 @@
 // What an edit will do, found before anything is written: refusal 9 is decided on it, so that only the end result counts.
-ghost use Rattle.std.specs.Prelude.{◌≡◌, true, ◌+◌, ◌-◌, ◌*◌, ◌≤◌, ◌<◌, ◌^◌};
+ghost use Rattle.std.specs.Prelude.{◌≡◌, true, ◌+◌, ◌-◌, ◌*◌, ◌≤◌, ◌<◌, ◌^◌, length};
 ghost use Rattle.keys.specs.Key.{valid_key, height_of, all_keys};
+ghost use Rattle.definitions.specs.Read.{records_of};
 ghost use Rattle.definitions.specs.Standing.{standing_of};
+ghost use Rattle.list.specs.Sorted.{Sorted};
 ghost use Rattle.list.specs.Taken.{records_listed};
 ghost use Rattle.replace.specs.Climb.{climb as climbed};
 ghost use Rattle.replace.specs.Put.{top_with, plan_at};
@@ -21,20 +23,22 @@ pub struct Plan {
 }
 
 // The height of the largest block around key that has the bits b of one feature, where the block of height low has got them: up as long as the
-// parent's bits are the same.
-fn climb(list: &Accepted<'_>, key: u32, b: u32, low: u32) -> u32
-    requires { (low ≤ list.now.m) × (key < all_keys) }
-    ensures { result ≡ climbed (records_listed list.now) key b (list.now.m - low) low }
+// parent's bits are the same. Only the keys must be in order.
+pub fn climb(m: u32, keys: &[u32], bits: &[u32], key: u32, b: u32, low: u32) -> u32
+    requires m_bound { (m ≤ 10) × (low ≤ m) × (key < all_keys) }
+    requires sorted { Sorted keys.now (length keys.now) 0 }
+    requires paired { length keys.now ≤ length bits.now }
+    ensures { result ≡ climbed (records_of keys.now bits.now (length keys.now)) key b (m - low) low }
 {
     let mut step = power::power_of_five(low);
-    for height in low..list.m {
-        let parent = parents::parent_bits(list.keys, list.bits, key, b, step);
+    for height in low..m {
+        let parent = parents::parent_bits(keys, bits, key, b, step);
         if parent != b {
             return height;
         }
         step *= 5;
     }
-    list.m
+    m
 }
 
 // The height of the block around key that is filled: its own, or where climbing ends for a content of one record, whose bits are told.
@@ -44,7 +48,7 @@ fn top_of(list: &Accepted<'_>, key: u32, one: Option<u32>) -> u32
 {
     let low = Key { number: key }.height(list.m);
     match one {
-        Some(bits) => climb(list, key, bits, low),
+        Some(bits) => climb(list.m, list.keys, list.bits, key, bits, low),
         None => low,
     }
 }

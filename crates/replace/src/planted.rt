@@ -21,13 +21,12 @@ fn write_leaves(
     ensures { (h : ℕ) → step ≡ 5 ^ h
         → WroteFrom (leaves g parent h count first) at keys.old bits.old keys.new bits.new result }
 {
-    let mut place = at;
-    for digit in first..first + count {
-        keys[place] = parent + digit * step;
+    for done in 0..count {
+        let place = at + done as usize;
+        keys[place] = parent + (first + done) * step;
         bits[place] = g;
-        place += 1;
     }
-    place
+    at + count as usize
 }
 
 // Which quadrant the block of height h around key is of its parent, where step is 5 ^ h.

@@ -55,7 +55,8 @@ fn need_one(list: &Accepted<'_>, block: TreeBlock, from: usize) -> Needed
     }
 }
 
-// What the largest blocks at or below a block need. They come in key order, so each is looked for from where the last one was found.
+// What the largest blocks at or below a block need. They come in key order, so each is looked for from where the last one was found: the quadrants are four
+// calls, one after the other. The descent is written out here and where entries are logged, since what the two hand on is not the same.
 pub fn need_below(list: &Accepted<'_>, window: Window, block: TreeBlock, from: usize) -> Needed
     requires { SmallWindow window × InMap list.now.m block × NearIn list.now from block.key }
     ensures { NeededFor list.now.m (picture_listed list.now) (largest_in window block) result.number result.places

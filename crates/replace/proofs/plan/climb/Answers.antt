@@ -1,24 +1,22 @@
 -- `plan::climb` meets its contract: what is left to climb gives what was to be climbed at the start.
 use Rattle.std.proofs.Common.{arith}
-use Rattle.list.proofs.Own.{own_sorted}
 use Rattle.replace.proofs.PlanClimb.{climb_begins, climb_step, climb_stops, climb_goes, climb_done}
 use Rattle.replace.proofs.plan.climb.Goals as goal
 
 pub loop-height-init : goal.loop-height-init
-loop-height-init c = climb_begins _ _ _ _ _ _ c.requires.0 c.power_of_five-step.ensures
+loop-height-init c = climb_begins _ _ _ _ _ _ c.requires.m_bound.1 c.power_of_five-step.ensures
 
 pub parent_bits-parent-requires : goal.parent_bits-parent-requires
 parent_bits-parent-requires c =
-    let list = c.args.list.now in
-    let step = climb_step c.loop-height.invariant list.deepest c.loop-height-test.true in
-    record { sorted = own_sorted list.own 0; paired = omega (arith, list.paired); key_lt_all_keys = (c.requires.1, step.0, step.1) }
+    let step = climb_step c.loop-height.invariant c.requires.m_bound.0 c.loop-height-test.true in
+    record { sorted = c.requires.sorted; paired = c.requires.paired; key_lt_all_keys = (c.requires.m_bound.2, step.0, step.1) }
 
 pub returns-then-parent-b : goal.returns-then-parent-b
 returns-then-parent-b c = climb_stops c.loop-height.invariant c.loop-height-test.true _ c.parent_bits-parent.ensures c.if-parent-b.true
 
 pub overflow_mul-step : goal.overflow_mul-step
 overflow_mul-step c =
-    let step = climb_step c.loop-height.invariant c.args.list.now.deepest c.loop-height-test.true in
+    let step = climb_step c.loop-height.invariant c.requires.m_bound.0 c.loop-height-test.true in
     omega arith
 
 pub loop-height-preserved : goal.loop-height-preserved
