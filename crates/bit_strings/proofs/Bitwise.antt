@@ -39,9 +39,6 @@ pub record Making (leaves : Bool) (values : List ℕ) (at byte place count : ℕ
   pub makes : byte * 2 ^ (8 - count) + high_first (8 - count) (string_from leaves values place) ≡ high_first 8 (string_from leaves values at)
   pub rest : string_from leaves values place ≡ drop count (string_from leaves values at)
 
-pub making_start : (leaves : Bool) (values : List ℕ) (at : ℕ) → at ≤ length values → Making leaves values at 0 at 0
-making_start leaves values at h = record { most = omega arith; inside = h; small = omega arith; makes = omega arith; rest = refl }
-
 bit_one : (b : Bool) → cond b 1 0 ≤ 1
 bit_one true = omega arith
 bit_one false = omega arith
@@ -58,9 +55,6 @@ module _ (leaves : Bool) (values : List ℕ) (at byte place count : ℕ) (m : Ma
         let h = m.small in
         let d = digit in
         omega arith
-
-    pub fits_byte : byte * 2 + cond b.bit 1 0 < 256
-    fits_byte = let e = fits in let h = pow_mono {i = count + 1} {j = 8} (omega arith) in omega arith
 
     pub making_turn : Making leaves values at (byte * 2 + cond b.bit 1 0) b.after (count + 1)
     making_turn =
@@ -84,9 +78,6 @@ module _ (leaves : Bool) (values : List ℕ) (at byte place count : ℕ) (m : Ma
   module _ (done : 8 ≤ count) where
     eight : count ≡ 8
     eight = let h = m.most in omega arith
-
-    pub byte_small : byte < 256
-    byte_small = let h = m.small in let e = ap (λ k. 2 ^ k) eight in omega arith
 
     pub making_end : ByteFilled leaves values at (record { byte = byte; after = place })
     making_end =
@@ -144,15 +135,6 @@ pub record WrittenBytes (leaves : Bool) (values : List ℕ) (count : ℕ) (out�
   pub same : length out ≡ length out₀
   pub rest : packed_in (count - k) (string_from leaves values place) ≡ drop k (packed_in count (string_of leaves values))
   pub filled : out ≡ paste out₀ 0 (packed_in count (string_of leaves values)) k
-
-pub written_start : (leaves : Bool) (values : List ℕ) (count : ℕ) (out : List ℕ) → WrittenBytes leaves values count out out 0 0
-written_start leaves values count out = record {
-  most = omega arith;
-  within = omega arith;
-  same = refl;
-  rest = ap (λ k. packed_in k (string_of leaves values)) (sub-zero count);
-  filled = paste-zero out 0 (packed_in count (string_of leaves values));
-}
 
 module _ {leaves : Bool} {values : List ℕ} {count : ℕ} {out₀ out : List ℕ} {place k : ℕ} (w : WrittenBytes leaves values count out₀ out place k) where
   pub written_turn : (b : Byte) → k < count → count ≤ length out₀ → ByteFilled leaves values place b → WrittenBytes leaves values count out₀ (set out k b.byte) b.after (k + 1)

@@ -130,13 +130,3 @@ module _ {m : ℕ} {nodes leaves : List ℕ} {n : ℕ} {keys₀ bits₀ keys bit
               one_more bits₀ (values_of (records_of_pair m nodes leaves)) bits i value (omega arith) (omega arith) f.filled_bits
               (sym (get_or-map (λ x. x.value) (records_of_pair m nodes leaves) i nothing ∙ ap (λ x. x.value) record_is));
         }
-
-  pub filling_end : n ≤ i
-      → (keys ≡ over (keys_of (records_of_pair m nodes leaves)) keys₀) × (bits ≡ over (values_of (records_of_pair m nodes leaves)) bits₀)
-  filling_end h =
-      let ks = keys_many in
-      let bs = bits_many in
-      let o = f.most in (
-        f.filled_keys ∙ paste_all keys₀ (keys_of (records_of_pair m nodes leaves)) i (omega arith),
-        f.filled_bits ∙ paste_all bits₀ (values_of (records_of_pair m nodes leaves)) i (omega arith),
-      )

@@ -112,6 +112,3 @@ pub begins_end : (l : List Bool) (at i : ℕ) (bit all : Bool) → 4 ≤ i → b
 begins_end l at i bit all h e =
     let none : 4 - i ≡ 0 = omega arith in
     sym (begins_none bit (drop (at + i) l)) ∙ ap (λ n. begins_with n bit (drop (at + i) l)) (sym none) ∙ e
-
-pub begins_start : (l : List Bool) (at : ℕ) (b : Bool) → begins_with (4 - 0) b (drop (at + 0) l) ≡ begins_with 4 b (drop at l)
-begins_start l at b = ap (λ k. begins_with 4 b (drop k l)) (add-zero at)

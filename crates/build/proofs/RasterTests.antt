@@ -31,9 +31,6 @@ pub record Scanned (s : ℕ) (raster : List ℕ) (bad : Bool) (i : ℕ) : Type 0
   pub within : i ≤ length raster
   pub found : bad_pixel s raster ≡ bad || bad_pixel s (drop i raster)
 
-pub scan_begins : (s : ℕ) (raster : List ℕ) → Scanned s raster false 0
-scan_begins s raster = record { within = omega arith; found = refl }
-
 or_assoc : (a b c : Bool) → a || (b || c) ≡ a || b || c
 or_assoc true b c = refl
 or_assoc false b c = refl

@@ -68,10 +68,6 @@ list_told m s keys bits n good r e =
 pub list_good : (m s : ℕ) (keys bits : List ℕ) (n : ℕ) → 0 ≡ first_refusal m s keys bits n → no_list m s keys bits n ≡ false
 list_good m s keys bits n e = ap not (list_passed m s keys bits n 0 e refl).list
 
--- the last of three tests decides where the others do not hold
-pub third_decides : (a b c : Bool) → a ≡ false → b ≡ false → c ≡ a || (b || c)
-third_decides a b c e f = rw (e, f)
-
 not_twelve : (a b c d e : Bool) → first (a gives 1 ∷ b gives 24 ∷ c gives 4 ∷ d gives 4 ∷ e gives 25 ∷ []) ≡ 12 → ⊥
 unfolding first
 not_twelve true b c d e z = omega arith

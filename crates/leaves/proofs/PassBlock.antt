@@ -20,7 +20,7 @@ use Rattle.build.proofs.CountBlock.{tallied_pixel, tallied_one, tallied_four}
 use Rattle.leaves.specs.Delivered.{leaves_end, Parted, leaf, four, leaf_pass, LeavesAsked, LeavesLost, LeavesPassed}
 use Rattle.leaves.specs.declared.count.Pass.{Pass}
 use Rattle.leaves.proofs.EndOf.{end_none, end_leaf, end_other}
-use Rattle.leaves.proofs.Quarters.{quarters, last_is, parted_there, step_below}
+use Rattle.leaves.proofs.Quarters.{quarters, last_is, step_below}
 
 module _ (keys features : List ℕ) (span : KeySpan) (at : ℕ) where
   pub lost_none : length keys ≤ at → LeavesLost keys span at

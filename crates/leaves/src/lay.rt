@@ -83,13 +83,29 @@ fn lay_below(
     let nw = lay_below(leaf_keys, leaf_features, nw_span, at, first, keys, bits);
     let second = nw.below.next;
     let ne_span = child(span, 2);
-    let ne = lay_below(leaf_keys, leaf_features, ne_span, nw.end, second, keys, bits);
+    let ne = lay_below(
+        leaf_keys,
+        leaf_features,
+        ne_span,
+        nw.end,
+        second,
+        keys,
+        bits,
+    );
     let third = ne.below.next;
     let sw_span = child(span, 3);
     let sw = lay_below(leaf_keys, leaf_features, sw_span, ne.end, third, keys, bits);
     let fourth = sw.below.next;
     let se_span = child(span, 4);
-    let se = lay_below(leaf_keys, leaf_features, se_span, sw.end, fourth, keys, bits);
+    let se = lay_below(
+        leaf_keys,
+        leaf_features,
+        se_span,
+        sw.end,
+        fourth,
+        keys,
+        bits,
+    );
     let step = span.step / 5;
     let below = write_four(
         span.key, step, place, nw.below, ne.below, sw.below, se.below, keys, bits,

@@ -48,26 +48,6 @@ module _ {p : Picture} {k r c κ : ℕ} {bits : List ℕ} {at wide place side lo
   pub half_is : side / 2 ≡ 2 ^ k
   half_is = let e = s.sides in let f = pow-suc 2 k in omega arith
 
-  -- half a side of rows lies in the raster
-  pub south_fits : side / 2 * wide ≤ long
-  south_fits =
-      let e = mul-le-mul_right {m = side / 2} {n = r + side} wide (omega arith) in
-      let f = s.rows in
-      omega arith
-
-  -- the corner of the last quadrant lies in the raster
-  pub corner_fits : place + side / 2 * wide + side / 2 ≤ long
-  corner_fits =
-      let half = half_is in
-      let pos = pow_pos k in
-      let e = mul-le-mul_right {m = suc (r + side / 2)} {n = r + side} wide (omega arith) in
-      let f = suc-mul (r + side / 2) wide in
-      let g = add-mul r (side / 2) wide in
-      let h = s.rows in
-      let i = s.columns in
-      let j = s.corner in
-      omega arith
-
   pub begins : (raster : List ℕ) → one_feature p (suc k) r c ≡ false → QuadrantsPassed p k r c κ bits at wide side raster raster (at + 1) 0
   begins raster several =
       let all = lists_all p k r c κ several in
@@ -219,8 +199,6 @@ module _ {bits raster₀ : List ℕ} {at wide place side : ℕ} {raster : List �
 
   -- what the code may do at a turn, since the bitstrings show some node
   module _ (e : ShowsNode bits at wide place side (length raster₀)) where
-    pub reached_long : length raster ≡ length raster₀
-    reached_long = (x.passed _ _ _ _ _ e.shows e.several).long
 
     module _ (h : d < 4) where
       pub next_room : next < length bits
@@ -246,13 +224,6 @@ module _ {bits raster₀ : List ℕ} {at wide place side : ℕ} {raster : List �
       child_asked corner is node = rw is (node_asked (child h e.shows e.several) node)
 
 -- the same with half the side as the code has it
-module _ {p : Picture} {k r c κ : ℕ} {bits : List ℕ} {at wide place side long half : ℕ} (known : side / 2 ≡ half) (s : Shows p (suc k) r c κ bits at wide place side long) where
-  pub south_half : half * wide ≤ long
-  south_half = rw (← known) (south_fits s)
-
-  pub corner_half : place + half * wide + half ≤ long
-  corner_half = rw (← known) (corner_fits s)
-
 module _ {bits raster₀ : List ℕ} {at wide place side half : ℕ} {raster : List ℕ} {next d : ℕ} (known : side / 2 ≡ half)
     (x : FillReached bits raster₀ at wide place side raster next d) (h : d < 4) (corner : ℕ) (is : corner ≡ corner_of d place half (half * wide)) where
   same_corner : corner ≡ corner_of d place (side / 2) (side / 2 * wide)

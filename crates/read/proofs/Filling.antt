@@ -25,8 +25,6 @@ places_begin raster from until feature h =
     record { low = omega arith; high = h; done = sym (painted_none (in_run from from) (λ j. feature) raster (run_empty from)) }
 
 module _ {raster₀ : List ℕ} {from until feature : ℕ} {raster : List ℕ} {i : ℕ} (p : PlacesPassed raster₀ from until feature raster i) where
-  pub places_long : length raster ≡ length raster₀
-  places_long = ap length p.done ∙ painted-length (in_run from i) (λ j. feature) raster₀
 
   pub place_goes : i < until → PlacesPassed raster₀ from until feature (set raster i feature) (i + 1)
   place_goes h =
@@ -81,29 +79,9 @@ rows_begin raster wide place side feature =
       done = sym (rectangle_none wide (λ a b. feature) (place / wide) (place % wide) side raster);
     }
 
--- rows up to the square's last end within the raster
-last_row : (q i side wide long : ℕ) → i < side → (q + side) * wide ≤ long → (q + i) * wide + wide ≤ long
-last_row q i side wide long h fits =
-    let e = suc-mul (q + i) wide in
-    let f = mul-le-mul_right {m = suc (q + i)} {n = q + side} wide (omega arith) in
-    omega arith
-
 module _ {raster₀ : List ℕ} {wide place side feature : ℕ} {raster : List ℕ} {from i : ℕ} (p : RowsPassed raster₀ wide place side feature raster from i) where
-  pub rows_long : length raster ≡ length raster₀
-  rows_long = ap length p.done ∙ rectangle-length wide (λ a b. feature) (place / wide) (place % wide) i side raster₀
 
   module _ (a : (place % wide + side ≤ wide) × ((place / wide + side) * wide ≤ length raster₀) × (0 < wide)) (h : i < side) where
-    pub row_fits : from + side ≤ length raster₀
-    row_fits =
-        let e = last_row (place / wide) i side wide (length raster₀) h a.1 in
-        let f = p.next in
-        omega arith
-
-    pub next_fits : from + wide ≤ length raster₀ + length raster₀
-    next_fits =
-        let e = last_row (place / wide) i side wide (length raster₀) h a.1 in
-        let f = p.next in
-        omega arith
 
     pub row_goes : (after : List ℕ) → after ≡ filled_by (in_run from (from + side)) (λ j. feature) raster → RowsPassed raster₀ wide place side feature after (from + wide) (i + 1)
     row_goes after e =

@@ -8,7 +8,7 @@ use lib.ListN.{length, get_or}
 use Rattle.definitions.specs.Bits.{feature_of}
 use Rattle.list.specs.Check.{one_slot}
 use Rattle.read.specs.Fill.{rectangle_painted, corner_of, ShowsNode, NodeFilled}
-use Rattle.read.proofs.FillTurn.{FillReached, fill_reached_none, reached_all, corner_fits, next_room, pixel_leaf, leaf_asked, leaf_turn}
+use Rattle.read.proofs.FillTurn.{FillReached, fill_reached_none, reached_all, next_room, pixel_leaf, leaf_asked, leaf_turn}
 
 -- a pixel at a place gets a feature
 abbrev pub with_pixel : ℕ → ℕ → ℕ → List ℕ → List ℕ
@@ -93,6 +93,3 @@ module _ {bits : List ℕ} (raster₀ : List ℕ) {at wide place : ℕ} (node : 
 
   pub four_there : at + 4 < length bits
   four_there = (turn_se {one = one'} refl refl {two = two'} refl refl {three = three'} refl refl).there
-
-  pub corner_there : place + wide + 1 ≤ length raster₀
-  corner_there = let e = corner_fits node.shows in omega arith
