@@ -3,6 +3,7 @@
 #![tactic(auto)]
 
 pub mod all_rules;
+pub mod call;
 pub mod one_rule;
 pub mod runs;
 pub mod state;
