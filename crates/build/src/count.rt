@@ -16,7 +16,8 @@ pub struct Tally {
     pub count: usize,
 }
 
-// A block of four quadrants: one record where they have one feature together, else its own and theirs.
+// A block of four quadrants: one record where they have one feature together, else its own and theirs. They come by name and in no array, since every
+// caller has them so.
 pub fn joined(nw: Tally, ne: Tally, sw: Tally, se: Tally) -> Tally
     requires { (nw.count ≤ 5 ^ 9) × (ne.count ≤ 5 ^ 9) × (sw.count ≤ 5 ^ 9) × (se.count ≤ 5 ^ 9) }
     ensures { Joined (union_of_four nw.bits ne.bits sw.bits se.bits) (nw.count + (ne.count + (sw.count + se.count))) result.bits result.count }

@@ -6,7 +6,8 @@ ghost use Rattle.build.specs.BuildBlocks.{picture_of_rows, word_at, Inside};
 
 use keys::power;
 
-// Refusal 3: some pixel is s or more. It reads on after the first one, so that the loop has no way out and works many pixels at a time.
+// Refusal 3: some pixel is s or more. It reads on after the first one, so that the loop has no way out and works many pixels at a time: an `any` would
+// leave there.
 pub fn has_bad_pixel(s: u32, raster: &[u8]) -> bool
     ensures { result ≡ bad_pixel s raster.now }
 {
@@ -28,7 +29,8 @@ pub fn pixel(raster: &[u8], side: usize, row: usize, column: usize) -> u32
     power::power_of_two(u32::from(raster[place]))
 }
 
-// The pixels of a block of 2 by 2 are alike. Nothing is promised of a no: such a block is worked in full, which is right for every block.
+// The pixels of a block of 2 by 2 are alike. Nothing is promised of a no: such a block is worked in full, which is right for every block. The tests are
+// joined by &, so that none of them is a branch.
 pub fn quad_alike(raster: &[u8], side: usize, row: usize, column: usize) -> bool
     requires { Inside raster.now side 1 row column }
     ensures { result ≡ true → one_feature (picture_of_rows side raster.now) 1 row column ≡ true }

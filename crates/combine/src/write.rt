@@ -40,53 +40,17 @@ pub fn write_block(
         let next = cursor::passed(at, here);
         return Writing { below, next };
     }
-    let nw = write_block(
-        bits1,
-        bits2,
-        table,
-        s2,
-        child(span, 1),
-        here,
-        first,
-        keys,
-        bits,
-    );
-    let second = nw.below.next;
-    let ne = write_block(
-        bits1,
-        bits2,
-        table,
-        s2,
-        child(span, 2),
-        nw.next,
-        second,
-        keys,
-        bits,
-    );
-    let third = ne.below.next;
-    let sw = write_block(
-        bits1,
-        bits2,
-        table,
-        s2,
-        child(span, 3),
-        ne.next,
-        third,
-        keys,
-        bits,
-    );
-    let fourth = sw.below.next;
-    let se = write_block(
-        bits1,
-        bits2,
-        table,
-        s2,
-        child(span, 4),
-        sw.next,
-        fourth,
-        keys,
-        bits,
-    );
+    let nw_span = child(span, 1);
+    let nw = write_block(bits1, bits2, table, s2, nw_span, here, first, keys, bits);
+    let next = nw.below.next;
+    let ne_span = child(span, 2);
+    let ne = write_block(bits1, bits2, table, s2, ne_span, nw.next, next, keys, bits);
+    let next = ne.below.next;
+    let sw_span = child(span, 3);
+    let sw = write_block(bits1, bits2, table, s2, sw_span, ne.next, next, keys, bits);
+    let next = sw.below.next;
+    let se_span = child(span, 4);
+    let se = write_block(bits1, bits2, table, s2, se_span, sw.next, next, keys, bits);
     let step = span.step / 5;
     let below = write_four(
         span.key, step, place, nw.below, ne.below, sw.below, se.below, keys, bits,

@@ -78,34 +78,18 @@ fn lay_below(
     if leaf_keys[at] == span.key {
         return lay_leaf(leaf_features, at, place);
     }
-    let first = place + 1;
+    let next = place + 1;
     let nw_span = child(span, 1);
-    let nw = lay_below(leaf_keys, leaf_features, nw_span, at, first, keys, bits);
-    let second = nw.below.next;
+    let nw = lay_below(leaf_keys, leaf_features, nw_span, at, next, keys, bits);
+    let next = nw.below.next;
     let ne_span = child(span, 2);
-    let ne = lay_below(
-        leaf_keys,
-        leaf_features,
-        ne_span,
-        nw.end,
-        second,
-        keys,
-        bits,
-    );
-    let third = ne.below.next;
+    let ne = lay_below(leaf_keys, leaf_features, ne_span, nw.end, next, keys, bits);
+    let next = ne.below.next;
     let sw_span = child(span, 3);
-    let sw = lay_below(leaf_keys, leaf_features, sw_span, ne.end, third, keys, bits);
-    let fourth = sw.below.next;
+    let sw = lay_below(leaf_keys, leaf_features, sw_span, ne.end, next, keys, bits);
+    let next = sw.below.next;
     let se_span = child(span, 4);
-    let se = lay_below(
-        leaf_keys,
-        leaf_features,
-        se_span,
-        sw.end,
-        fourth,
-        keys,
-        bits,
-    );
+    let se = lay_below(leaf_keys, leaf_features, se_span, sw.end, next, keys, bits);
     let step = span.step / 5;
     let below = write_four(
         span.key, step, place, nw.below, ne.below, sw.below, se.below, keys, bits,

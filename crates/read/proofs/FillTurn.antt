@@ -4,7 +4,7 @@ use Prim.Native.Nat.{ℕ, zero, suc, ◌+◌, ◌*◌, ◌/◌, ◌%◌, ◌^◌
 use mathlib.Core.Path.{◌≡◌, refl, sym, ◌∙◌, ap, ap₂}
 use mathlib.Core.Bool.{true, false}
 use mathlib.Core.List.{List, ◌++◌}
-use native.Mathlib.Nat.{pow-suc, add-mul, suc-mul, mul-le-mul_right, add_assoc}
+use native.Mathlib.Nat.{pow-suc, add-mul, mul-le-mul_right, add_assoc}
 use native.Mathlib.Numerals.{add-one}
 use native.Mathlib.Omega.{arith}
 use lib.ListN.{length, get_or, drop, length-map}
@@ -199,7 +199,6 @@ module _ {bits raster₀ : List ℕ} {at wide place side : ℕ} {raster : List �
 
   -- what the code may do at a turn, since the bitstrings show some node
   module _ (e : ShowsNode bits at wide place side (length raster₀)) where
-
     module _ (h : d < 4) where
       pub next_room : next < length bits
       next_room = shows_room (child h e.shows e.several)

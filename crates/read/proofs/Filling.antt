@@ -4,15 +4,15 @@ use Prim.Native.Nat.{ℕ, zero, suc, ◌+◌, ◌-◌, ◌*◌, ◌/◌, ◌%◌
 use mathlib.Core.Path.{◌≡◌, refl, sym, ◌∙◌, ap}
 use mathlib.Core.List.{List, ◌++◌, append_assoc}
 use native.Mathlib.Numerals.{add-one}
-use native.Mathlib.Nat.{le_antisymm, suc-mul, mul-le-mul_right, div-add-mod'}
+use native.Mathlib.Nat.{le_antisymm, suc-mul, div-add-mod'}
 use native.Mathlib.Omega.{arith}
 use lib.ListN.{length, set, take, drop, replicate, length-drop, length-replicate}
 use lib.Seq.{sets, sets-eq, length-take-le, drop-drop}
 use borrow.Rule.Slice.PartMut.{put_mid}
 use lib.Dec.{eqb}
 use Rattle.read.specs.Fill.{filled_by, in_run, rectangle_painted}
-use Rattle.read.proofs.Painted.{painted-length, painted_join, painted_same, painted_none, set-painted}
-use Rattle.read.proofs.Rectangle.{run_empty, run_next, rectangle_none, rectangle_row, rectangle-length}
+use Rattle.read.proofs.Painted.{painted_join, painted_same, painted_none, set-painted}
+use Rattle.read.proofs.Rectangle.{run_empty, run_next, rectangle_none, rectangle_row}
 
 -- the places from one up to i have the feature
 pub record PlacesPassed (raster₀ : List ℕ) (from until feature : ℕ) (raster : List ℕ) (i : ℕ) : Type 0 where
@@ -25,7 +25,6 @@ places_begin raster from until feature h =
     record { low = omega arith; high = h; done = sym (painted_none (in_run from from) (λ j. feature) raster (run_empty from)) }
 
 module _ {raster₀ : List ℕ} {from until feature : ℕ} {raster : List ℕ} {i : ℕ} (p : PlacesPassed raster₀ from until feature raster i) where
-
   pub place_goes : i < until → PlacesPassed raster₀ from until feature (set raster i feature) (i + 1)
   place_goes h =
       let low = p.low in
@@ -80,9 +79,7 @@ rows_begin raster wide place side feature =
     }
 
 module _ {raster₀ : List ℕ} {wide place side feature : ℕ} {raster : List ℕ} {from i : ℕ} (p : RowsPassed raster₀ wide place side feature raster from i) where
-
   module _ (a : (place % wide + side ≤ wide) × ((place / wide + side) * wide ≤ length raster₀) × (0 < wide)) (h : i < side) where
-
     pub row_goes : (after : List ℕ) → after ≡ filled_by (in_run from (from + side)) (λ j. feature) raster → RowsPassed raster₀ wide place side feature after (from + wide) (i + 1)
     row_goes after e =
         let f = suc-mul (place / wide + i) wide in

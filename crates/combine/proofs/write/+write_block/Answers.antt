@@ -39,46 +39,46 @@ module _ {bits₁ bits₂ table : List ℕ} {s₂ : ℕ} {span : KeySpan} {x : P
 
 pub write_block-nw-requires : goal.write_block-nw-requires
 write_block-nw-requires t c =
-    let f = c.child.ensures in
+    let f = c.child-nw_span.ensures in
     (lower c.requires t c.decreases 1 f, writes_nw c.requires c.enter_both-here.ensures c.in_default.ensures f)
 
 pub write_block-ne-requires : goal.write_block-ne-requires
 write_block-ne-requires t c =
-    let f = c.child-2.ensures in
-    (lower c.requires t c.decreases 2 f, writes_ne c.requires c.enter_both-here.ensures c.in_default.ensures c.child.ensures c.write_block-nw.ensures f)
+    let f = c.child-ne_span.ensures in
+    (lower c.requires t c.decreases 2 f, writes_ne c.requires c.enter_both-here.ensures c.in_default.ensures c.child-nw_span.ensures c.write_block-nw.ensures f)
 
 pub write_block-sw-requires : goal.write_block-sw-requires
 write_block-sw-requires t c =
-    let f = c.child-3.ensures in (
+    let f = c.child-sw_span.ensures in (
       lower c.requires t c.decreases 3 f,
       writes_sw c.requires c.enter_both-here.ensures c.in_default.ensures
-          c.child.ensures c.write_block-nw.ensures
-          c.child-2.ensures c.write_block-ne.ensures f,
+          c.child-nw_span.ensures c.write_block-nw.ensures
+          c.child-ne_span.ensures c.write_block-ne.ensures f,
     )
 
 pub write_block-se-requires : goal.write_block-se-requires
 write_block-se-requires t c =
-    let f = c.child-4.ensures in (
+    let f = c.child-se_span.ensures in (
       lower c.requires t c.decreases 4 f,
       writes_se c.requires c.enter_both-here.ensures c.in_default.ensures
-          c.child.ensures c.write_block-nw.ensures
-          c.child-2.ensures c.write_block-ne.ensures
-          c.child-3.ensures c.write_block-sw.ensures f,
+          c.child-nw_span.ensures c.write_block-nw.ensures
+          c.child-ne_span.ensures c.write_block-ne.ensures
+          c.child-sw_span.ensures c.write_block-sw.ensures f,
     )
 
 pub write_four-below-requires : goal.write_four-below-requires
 write_four-below-requires t c =
     four_asked c.requires c.enter_both-here.ensures c.in_default.ensures
-    c.child.ensures c.write_block-nw.ensures
-    c.child-2.ensures c.write_block-ne.ensures
-    c.child-3.ensures c.write_block-sw.ensures
-    c.child-4.ensures c.write_block-se.ensures
+    c.child-nw_span.ensures c.write_block-nw.ensures
+    c.child-ne_span.ensures c.write_block-ne.ensures
+    c.child-sw_span.ensures c.write_block-sw.ensures
+    c.child-se_span.ensures c.write_block-se.ensures
 
 pub returns : goal.returns
 returns t c =
     node_made c.requires c.enter_both-here.ensures c.in_default.ensures
-    c.child.ensures c.write_block-nw.ensures
-    c.child-2.ensures c.write_block-ne.ensures
-    c.child-3.ensures c.write_block-sw.ensures
-    c.child-4.ensures c.write_block-se.ensures
+    c.child-nw_span.ensures c.write_block-nw.ensures
+    c.child-ne_span.ensures c.write_block-ne.ensures
+    c.child-sw_span.ensures c.write_block-sw.ensures
+    c.child-se_span.ensures c.write_block-se.ensures
     c.write_four-below.ensures c.passed-next-2.ensures
