@@ -1,4 +1,4 @@
--- `put_digits` meets its contract: after i turns the first i digits stand, and what remains is the digits of the rest.
+-- `put_digits`: after i turns the first i digits stand, and what remains is the digits of the rest.
 use Prim.Native.Nat.{ℕ, ◌+◌, ◌-◌, ◌*◌, ◌/◌, ◌%◌, ◌^◌, ◌≤◌, ◌<◌}
 use mathlib.Core.Path.{◌≡◌, sym, ap, ◌∙◌}
 use mathlib.Core.List.{List, [], ◌∷◌, ◌++◌}

@@ -1,4 +1,4 @@
--- `put_key` meets its contract: "-" where there are no digits, else the digits.
+-- `put_key`: "-" where there are no digits, else the digits.
 use Prim.Native.Nat.{ℕ}
 use mathlib.Core.Path.{◌≡◌, sym, ap, subst}
 use mathlib.Core.Bool.{Bool, cond}

@@ -1,4 +1,4 @@
--- `put_line` meets its contract: the key, a blank, the slots and the line's end stand one after the other.
+-- `put_line`: the key, a blank, the slots and the line's end stand one after the other.
 use Prim.Native.Nat.{ℕ}
 use mathlib.Core.List.{List, [], ◌∷◌, ◌++◌}
 use Rattle.definitions.specs.List.{record_of}

@@ -1,4 +1,4 @@
--- `put_slots` meets its contract: after i turns slots 0 to i - 1 stand, and the rest is the bitstring without them.
+-- `put_slots`: after i turns slots 0 to i - 1 stand, and the rest is the bitstring without them.
 use Prim.Native.Nat.{ℕ, ◌+◌, ◌-◌, ◌/◌, ◌%◌, ◌≤◌, ◌<◌}
 use mathlib.Core.Path.{◌≡◌, sym, ap, ◌∙◌}
 use mathlib.Core.List.{List, [], ◌∷◌, ◌++◌}

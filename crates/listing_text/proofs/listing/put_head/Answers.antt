@@ -1,4 +1,4 @@
--- `put_head` meets its contract: m, s and n stand one after the other, each with the byte that follows it.
+-- `put_head`: m, s and n stand one after the other, each with the byte that follows it.
 use Prim.Native.Nat.{ℕ}
 use mathlib.Core.Path.{◌≡◌, sym, ap, ◌∙◌}
 use mathlib.Core.List.{List, [], ◌∷◌, ◌++◌, append_assoc}

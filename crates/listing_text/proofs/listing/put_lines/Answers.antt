@@ -1,4 +1,4 @@
--- `put_lines` meets its contract: after i turns the lines of the first i records stand, and what remains is those of the others.
+-- `put_lines`: after i turns the lines of the first i records stand, and what remains is those of the others.
 use Prim.Native.Nat.{ℕ, ◌+◌, ◌-◌, ◌^◌, ◌≤◌, ◌<◌}
 use mathlib.Core.Path.{◌≡◌, ap, ◌∙◌}
 use mathlib.Core.List.{List, ◌++◌}

@@ -1,4 +1,4 @@
--- `put_listing` meets its contract: the head, whose n is the number of the records, and then their lines.
+-- `put_listing`: the head, whose n is the number of the records, and then their lines.
 use Prim.Native.Nat.{ℕ}
 use mathlib.Core.Path.{◌≡◌, ap}
 use mathlib.Core.List.{List, ◌++◌}

@@ -1,4 +1,4 @@
--- `put_refusal` meets its contract: the word with its blank, and then the number and the line's end.
+-- `put_refusal`: the word with its blank, and then the number and the line's end.
 use Prim.Native.Nat.{ℕ}
 use mathlib.Core.List.{List, [], ◌∷◌, ◌++◌}
 use Rattle.definitions.specs.Listing.{blank, line_end, refused, decimal, refusal_line}

@@ -1,4 +1,4 @@
--- `put_number` meets its contract: below ten it is one digit, else the number's tenth and then its last digit. The measure is the number.
+-- `put_number`: below ten it is one digit, else the number's tenth and then its last digit. The measure is the number.
 use Prim.Native.Nat.{ℕ, ◌/◌, ◌%◌, ◌<◌, ◌≤◌}
 use mathlib.Core.Path.{◌≡◌, ap}
 use mathlib.Core.List.{List, [], ◌∷◌, ◌++◌}

@@ -1,4 +1,4 @@
--- `put_number` meets its contract: below ten it is one digit, else the number's tenth and then its last digit. The measure is the number.
+-- The measure of `put_number` is the number: the call within takes its tenth.
 use Rattle.listing_text.proofs.text.+put_number.Given as goal
 
 abbrev pub decreases-put_number : goal.decreases-put_number

@@ -1,4 +1,4 @@
--- `put_number_then` meets its contract: the number and the byte stand one after the other.
+-- `put_number_then`: the number and the byte stand one after the other.
 use mathlib.Core.List.{[], ◌∷◌}
 use Rattle.definitions.specs.Listing.{decimal}
 use Rattle.listing_text.proofs.Going.{line_begins, goes, finishes, room, piece_room}

@@ -1,4 +1,4 @@
--- `put_text` meets its contract: after i turns the first i bytes stand, and what remains is the text without them.
+-- `put_text`: after i turns the first i bytes stand, and what remains is the text without them.
 use Prim.Native.Nat.{ℕ, ◌+◌, ◌≤◌, ◌<◌}
 use mathlib.Core.Path.{◌≡◌, sym, ap, ◌∙◌}
 use mathlib.Core.List.{List, [], ◌∷◌, ◌++◌}
