@@ -17,7 +17,7 @@ pub struct Doing<'a> {
     pub ghost doable: { ∥ Doable m deed log_keys.now log_values.now ∥₁ },
 }
 
-impl<'a> Doing<'a> {
+impl Doing<'_> {
     ghost use Rattle.std.specs.Prelude.{◌+◌, ◌^◌};
     ghost use Rattle.keys.specs.Child.{KeysEnd};
     ghost use Rattle.deeds.specs.Meeting.{BlockAsked};
@@ -42,7 +42,7 @@ impl<'a> Doing<'a> {
     }
 
     // As much of the step as concerns a block and what lies before it in key order. A window is told as it is.
-    pub fn narrowed(self, block: TreeBlock) -> Doing<'a>
+    pub fn narrowed(self, block: TreeBlock) -> Self
         requires { KeysEnd block }
         ensures { NarrowerDeed (block.key + 5 ^ block.height) self.entry result }
     {
