@@ -36,12 +36,15 @@ Function = namedtuple("Function", "crate file type name start end contract body"
 def functions_of(path):
     text = path.read_text()
     crate, kind = path.relative_to(CRATES).parts[0], ""
-    for found in re.finditer(r'^(?:impl (\w+)|( *)(?:pub )?(?:extern "C" )?fn (\w+))', text, flags=re.M):
+    for found in re.finditer(r'^(?:impl(?:<[^>]*>)? (?:[^{]* for )?(\w+)|( *)(?:pub )?(?:extern "C" )?fn (\w+))', text,
+                             flags=re.M):
         if found.group(1):
             kind = found.group(1)
             continue
         indent = found.group(2)
-        body = re.compile(rf"^{indent}\{{$|\)(?: -> [^{{]+)? \{{$", re.M).search(text, found.end())
+        body = re.compile(rf"^{indent}\{{$|\)(?: -> [^{{]+)? \{{$|;$", re.M).search(text, found.end())
+        if body.group(0) == ";":  # a trait's, whose impls have the bodies
+            continue
         end = re.compile(rf"^{indent}\}}$", re.M).search(text, body.end()).end()
         yield Function(crate, path, kind if indent else "", found.group(3), found.start(), end,
                        text[found.start():body.start()], text[body.start():end])
@@ -81,9 +84,23 @@ def called(function, words):
         if place is None:
             if other.file == function.file and not other.type:
                 yield other
-        elif place in (other.type, other.file.stem) or (place == other.crate and other.file.stem in ("lib", "main")):
+        elif place in (other.type, other.file.stem) or (place == other.crate and is_at_the_root(other)):
             if crate == other.crate:
                 yield other
+        elif place not in names_of_places() and other.type:  # a type parameter: any impl may be meant
+            yield other
+
+
+@lru_cache(maxsize=None)
+def is_at_the_root(function):
+    """The crate has the function under its own name."""
+    root = CRATES / function.crate / "src/lib.rt"
+    return function.file.stem in ("lib", "main") or f"pub use {function.file.stem}::{function.name};" in root.read_text()
+
+
+@lru_cache(maxsize=None)
+def names_of_places():
+    return {name for function in code()[0] for name in (function.type, function.file.stem, function.crate)}
 
 
 @lru_cache(maxsize=None)
@@ -94,10 +111,13 @@ def crates():
 @lru_cache(maxsize=None)
 def calls_of(function):
     functions, found = code()[0], set()
-    for path in re.findall(r"(?<![\w.])((?:\w+::)*\w+)\(", function.body):
+    for path in re.findall(r"(?<![\w.])((?:\w+::)*\w+)\(", re.sub(r"::<[^>]*>", "", function.body)):
         found.update(called(function, path.split("::")))
     for method in re.findall(r"\.(\w+)\(", function.body):
         found.update(other for other in functions if other.type and other.name == method)
+    if ".into()" in function.body:  # the conversion into what is answered, or what that is made of
+        words = set(re.findall(r"\w+", function.contract + function.body))
+        found.update(other for other in functions if other.name == "from" and other.type in words | {"u64"})
     return found
 
 

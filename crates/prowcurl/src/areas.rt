@@ -20,7 +20,7 @@ pub extern "C" fn hlq_fill_summary(
     ensures value { result ≡ fill_summary m s keys.now bits.now n summary.old }
     ensures summary_after { summary.new ≡ filled_summary m s keys.now bits.now n summary.old }
 {
-    filling::fill_summary(m, s, keys, bits, n, summary)
+    filling::fill_summary(m, s, keys, bits, n, summary).into()
 }
 
 #[unsafe(no_mangle)]
@@ -45,5 +45,5 @@ pub extern "C" fn hlq_area(
         height,
         width,
     };
-    measuring::area(m, s, keys, bits, n, summary, window, feature)
+    measuring::area(m, s, keys, bits, n, summary, window, feature).into()
 }

@@ -28,4 +28,5 @@ pub extern "C" fn hlq_combine(
     combine::combine(
         m1, s1, keys1, bits1, n1, m2, s2, keys2, bits2, n2, s3, table, keys3, bits3,
     )
+    .into()
 }

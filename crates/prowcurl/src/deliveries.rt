@@ -20,7 +20,7 @@ pub extern "C" fn hlq_read_leaves(
     ensures keys_after { keys.new ≡ read_leaves_keys m s leaf_keys.now leaf_features.now leaves keys.old bits.old }
     ensures bits_after { bits.new ≡ read_leaves_bits m s leaf_keys.now leaf_features.now leaves keys.old bits.old }
 {
-    calls::read_leaves(m, s, leaf_keys, leaf_features, leaves, keys, bits)
+    calls::read_leaves(m, s, leaf_keys, leaf_features, leaves, keys, bits).into()
 }
 
 #[unsafe(no_mangle)]
@@ -37,5 +37,5 @@ pub extern "C" fn hlq_write_leaves(
     ensures leaf_keys_after { leaf_keys.new ≡ written_leaf_keys m s keys.now bits.now n leaf_keys.old leaf_features.old }
     ensures leaf_features_after { leaf_features.new ≡ written_leaf_features m s keys.now bits.now n leaf_keys.old leaf_features.old }
 {
-    calls::write_leaves(m, s, keys, bits, n, leaf_keys, leaf_features)
+    calls::write_leaves(m, s, keys, bits, n, leaf_keys, leaf_features).into()
 }

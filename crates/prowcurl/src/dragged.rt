@@ -20,7 +20,7 @@ pub extern "C" fn hlq_exist_clipped(
 ) -> Exists
     ensures { result ≡ exist_clipped m s keys.now bits.now n row column height width feature }
 {
-    calls::exist_clipped(m, s, keys, bits, n, row, column, height, width, feature)
+    calls::exist_clipped(m, s, keys, bits, n, row, column, height, width, feature).into()
 }
 
 #[unsafe(no_mangle)]
@@ -37,7 +37,7 @@ pub extern "C" fn hlq_report_clipped(
 ) -> Reported
     ensures { result ≡ report_clipped m s keys.now bits.now n row column height width }
 {
-    calls::report_clipped(m, s, keys, bits, n, row, column, height, width)
+    calls::report_clipped(m, s, keys, bits, n, row, column, height, width).into()
 }
 
 #[unsafe(no_mangle)]
@@ -61,6 +61,7 @@ pub extern "C" fn hlq_select_clipped(
     calls::select_clipped(
         m, s, keys, bits, n, row, column, height, width, feature, answer,
     )
+    .into()
 }
 
 #[unsafe(no_mangle)]
@@ -82,4 +83,5 @@ pub extern "C" fn hlq_area_clipped(
     calls::area_clipped(
         m, s, keys, bits, n, summary, row, column, height, width, feature,
     )
+    .into()
 }

@@ -33,6 +33,7 @@ pub extern "C" fn hlq_paint(
     paint::paint(
         m, s, keys, bits, n, summary, log_keys, log_values, used, in_force, key, feature,
     )
+    .into()
 }
 
 #[unsafe(no_mangle)]
@@ -65,6 +66,7 @@ pub extern "C" fn hlq_paint_window(
     paint_window::paint_window(
         m, s, keys, bits, n, summary, log_keys, log_values, used, in_force, window, feature,
     )
+    .into()
 }
 
 #[unsafe(no_mangle)]
@@ -86,6 +88,7 @@ pub extern "C" fn hlq_take_back(
     take_back::take_back(
         m, s, keys, bits, n, summary, log_keys, log_values, used, in_force,
     )
+    .into()
 }
 
 #[unsafe(no_mangle)]
@@ -107,6 +110,7 @@ pub extern "C" fn hlq_redo(
     redoing::redo(
         m, s, keys, bits, n, summary, log_keys, log_values, used, in_force,
     )
+    .into()
 }
 
 #[unsafe(no_mangle)]

@@ -20,7 +20,7 @@ pub extern "C" fn hlq_store(
     ensures value { result ≡ store_answer m s keys.now bits.now n file.old }
     ensures file_after { file.new ≡ store_file m s keys.now bits.now n file.old }
 {
-    store::store(m, s, keys, bits, n, file)
+    store::store(m, s, keys, bits, n, file).into()
 }
 
 #[unsafe(no_mangle)]
@@ -29,7 +29,7 @@ pub extern "C" fn hlq_load(file: &[u8], keys: &mut [u32], bits: &mut [u32]) -> L
     ensures keys_after { keys.new ≡ load_keys file.now keys.old bits.old }
     ensures bits_after { bits.new ≡ load_bits file.now keys.old bits.old }
 {
-    load::load(file, keys, bits)
+    load::load(file, keys, bits).into()
 }
 
 #[unsafe(no_mangle)]
@@ -45,7 +45,7 @@ pub extern "C" fn hlq_store_log(
     ensures value { result ≡ store_log_answer m s log_keys.now log_values.now used in_force file.old }
     ensures file_after { file.new ≡ store_log_file m s log_keys.now log_values.now used in_force file.old }
 {
-    log_file::store::store(m, s, log_keys, log_values, used, in_force, file)
+    log_file::store::store(m, s, log_keys, log_values, used, in_force, file).into()
 }
 
 #[unsafe(no_mangle)]
@@ -58,5 +58,5 @@ pub extern "C" fn hlq_load_log(
     ensures log_keys_after { log_keys.new ≡ load_log_keys file.now log_keys.old log_values.old }
     ensures log_values_after { log_values.new ≡ load_log_values file.now log_keys.old log_values.old }
 {
-    log_file::load::load(file, log_keys, log_values)
+    log_file::load::load(file, log_keys, log_values).into()
 }

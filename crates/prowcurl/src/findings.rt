@@ -52,5 +52,5 @@ pub extern "C" fn hlq_findings(
     let written = all_rules::run(
         rules, keys, bits, ids, waived, found_ids, found_keys, writing,
     );
-    runs::answer(written)
+    runs::answer(written).into()
 }

@@ -22,7 +22,7 @@ pub extern "C" fn hlq_build(
     ensures bits_after { bits.new ≡ survey_bits m s raster.now keys.old bits.old summary.old }
     ensures summary_after { summary.new ≡ survey_summary m s raster.now keys.old bits.old summary.old }
 {
-    build_with_summary::survey(m, s, raster, keys, bits, summary)
+    build_with_summary::survey(m, s, raster, keys, bits, summary).into()
 }
 
 #[unsafe(no_mangle)]
@@ -37,7 +37,7 @@ pub extern "C" fn hlq_raster(
     ensures value { result ≡ raster_answer m s keys.now bits.now n raster.old }
     ensures raster_after { raster.new ≡ raster_pixels m s keys.now bits.now n raster.old }
 {
-    calls::raster(m, s, keys, bits, n, raster)
+    calls::raster(m, s, keys, bits, n, raster).into()
 }
 
 #[unsafe(no_mangle)]
@@ -51,7 +51,7 @@ pub extern "C" fn hlq_standing(
 ) -> Stands
     ensures { result ≡ standing_answer m s keys.now bits.now n key }
 {
-    calls::standing(m, s, keys, bits, n, key)
+    calls::standing(m, s, keys, bits, n, key).into()
 }
 
 #[unsafe(no_mangle)]

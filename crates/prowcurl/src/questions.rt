@@ -1,9 +1,8 @@
-// The batch for C: many questions of one list, which is checked once. The call itself stands here, and not one more function between it
-// and the loop.
+// The batch for C: many questions of one list, which is checked once.
 ghost use Rattle.std.specs.Prelude.{◌≡◌};
 ghost use Rattle.definitions.specs.Calls.Batch.{batch as batch_answer, batch_refusals, batch_values};
 
-use batch::{begin, run};
+use batch::call;
 use definitions::{Counted, Question};
 
 #[unsafe(no_mangle)]
@@ -21,16 +20,5 @@ pub extern "C" fn hlq_batch(
         × (refusals.new ≡ batch_refusals m s keys.now bits.now n questions.now refusals.old values.old)
         × (values.new ≡ batch_values m s keys.now bits.now n questions.now refusals.old values.old) }
 {
-    let begun = begin::begin(
-        m,
-        s,
-        keys,
-        bits,
-        n,
-        questions.len(),
-        refusals.len(),
-        values.len(),
-    );
-    let asked = run::run(questions, keys, bits, refusals, values, begun);
-    begin::answer(asked)
+    call::ask_all(m, s, keys, bits, n, questions, refusals, values).into()
 }

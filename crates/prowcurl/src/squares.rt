@@ -9,12 +9,12 @@ use definitions::{Block, Keyed};
 pub extern "C" fn hlq_key_at(m: u32, row: u32, column: u32, level: u32) -> Keyed
     ensures { result ≡ key_at m row column level }
 {
-    blocks::key_at(m, row, column, level)
+    blocks::key_at(m, row, column, level).into()
 }
 
 #[unsafe(no_mangle)]
 pub extern "C" fn hlq_block_of(m: u32, key: u32) -> Block
     ensures { result ≡ block_of m key }
 {
-    blocks::block_of(m, key)
+    blocks::block_of(m, key).into()
 }

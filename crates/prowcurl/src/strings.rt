@@ -36,5 +36,5 @@ pub extern "C" fn hlq_read_bit_strings(
     ensures keys_after { keys.new ≡ read_keys m s node_bits.now leaf_bits.now keys.old bits.old }
     ensures bits_after { bits.new ≡ read_bits m s node_bits.now leaf_bits.now keys.old bits.old }
 {
-    reading::read_bit_strings(m, s, node_bits, leaf_bits, keys, bits)
+    reading::read_bit_strings(m, s, node_bits, leaf_bits, keys, bits).into()
 }

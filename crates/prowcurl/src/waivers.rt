@@ -22,7 +22,7 @@ pub extern "C" fn hlq_add_waiver(
         × (ids.new ≡ add_ids m office offices.old ids.old waived.old rows id key)
         × (waived.new ≡ add_keys m office offices.old ids.old waived.old rows id key) }
 {
-    calls::add_waiver(m, office, offices, ids, waived, rows, id, key)
+    calls::add_waiver(m, office, offices, ids, waived, rows, id, key).into()
 }
 
 #[unsafe(no_mangle)]
@@ -41,5 +41,5 @@ pub extern "C" fn hlq_remove_waiver(
         × (ids.new ≡ remove_ids m office offices.old ids.old waived.old rows id key)
         × (waived.new ≡ remove_keys m office offices.old ids.old waived.old rows id key) }
 {
-    calls::remove_waiver(m, office, offices, ids, waived, rows, id, key)
+    calls::remove_waiver(m, office, offices, ids, waived, rows, id, key).into()
 }

@@ -29,7 +29,7 @@ pub extern "C" fn hlq_exist(
         height,
         width,
     };
-    calls::exist(m, s, keys, bits, n, window, feature)
+    calls::exist(m, s, keys, bits, n, window, feature).into()
 }
 
 #[unsafe(no_mangle)]
@@ -52,7 +52,7 @@ pub extern "C" fn hlq_report(
         height,
         width,
     };
-    calls::report(m, s, keys, bits, n, window)
+    calls::report(m, s, keys, bits, n, window).into()
 }
 
 #[unsafe(no_mangle)]
@@ -79,5 +79,5 @@ pub extern "C" fn hlq_select(
         height,
         width,
     };
-    calls::select(m, s, keys, bits, n, window, feature, answer)
+    calls::select(m, s, keys, bits, n, window, feature, answer).into()
 }
