@@ -3,9 +3,9 @@ use Prim.Native.Nat.{ℕ, ◌≤◌, ◌<◌, min}
 use mathlib.Core.Path.{◌≡◌, refl, sym, ap, ◌∙◌}
 use mathlib.Core.Bool.{cond}
 use mathlib.Core.List.{List}
-use borrow.Author.Tests.{lt-ltb, le-ltb, eq-eqb, ne_eqb}
+use borrow.Author.Tests.{lt-ltb, le-ltb, ne_eqb}
 use Rattle.definitions.specs.declared.Counted.{Counted}
-use Rattle.laws.proofs.First.{this, none_first, holds_first, accepted_done, accepted_left}
+use Rattle.laws.proofs.First.{this, none_first, holds_first, accepted_done}
 use Rattle.list.specs.First.{first_refusal}
 use Rattle.list.proofs.FirstRefusal.{refused_first, passed_first, first_small}
 use lib.Dec.{eqb}
@@ -14,17 +14,13 @@ use Rattle.definitions.specs.Refused.{refusal_number, places_needed}
 use Rattle.definitions.specs.declared.refusal.Refusal.{Refusal}
 use Rattle.definitions.proofs.Refused.{refusal_some}
 use Rattle.definitions.proofs.Needed.{none_needed}
-use Rattle.batch.specs.Run.{BatchNumbers, answering_refusal, answering_begins, answering_ends}
+use Rattle.batch.specs.Run.{BatchNumbers, answering_refusal, answering_ends}
 
 module _ (m s : ℕ) (keys bits : List ℕ) (n questions room_refusals room_values : ℕ) where
   -- 1 and 4
   pub begin_early : (k : ℕ) → k ≡ first_refusal m s keys bits n → (k ≡ 0 → ⊥) → k ≡ answering_refusal m s keys bits n questions room_refusals room_values
   unfolding answering_refusal
   begin_early k e h = refused_first m s keys bits n k _ e h
-
-  pub begun : (refusal : ℕ) → refusal ≡ answering_refusal m s keys bits n questions room_refusals room_values
-      → record { m = m; s = s; n = n; refusal = refusal; questions = questions; place = 0 } ≡ answering_begins m s keys bits n questions room_refusals room_values
-  begun refusal e = λ i. record { m = m; s = s; n = n; refusal = e i; questions = questions; place = 0 }
 
   -- and then no places are needed
   pub early_needed : (refusal : Refusal) → refusal_number refusal ≡ first_refusal m s keys bits n
@@ -50,11 +46,3 @@ counted {a} e i = record { refusal = a; count = e i }
 pub answer_done : (st : BatchNumbers) → st.refusal ≡ 0 → record { refusal = st.refusal; count = st.questions } ≡ answering_ends st
 unfolding answering_ends
 answer_done st e = counted (sym (accepted_done _ _ e))
-
-pub answer_full : (st : BatchNumbers) → (st.refusal ≡ 0 → ⊥) → st.refusal ≡ 12 → record { refusal = st.refusal; count = st.questions } ≡ answering_ends st
-unfolding answering_ends
-answer_full st h e = counted (sym (accepted_left _ _ h ∙ ap (λ t. cond t st.questions 0) (eq-eqb st.refusal 12 e)))
-
-pub answer_refused : (st : BatchNumbers) → (st.refusal ≡ 0 → ⊥) → (st.refusal ≡ 12 → ⊥) → record { refusal = st.refusal; count = 0 } ≡ answering_ends st
-unfolding answering_ends
-answer_refused st h k = counted (sym (accepted_left _ _ h ∙ ap (λ t. cond t st.questions 0) (ne_eqb st.refusal 12 k)))

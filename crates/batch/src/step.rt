@@ -26,7 +26,7 @@ fn window_of(m: u32, question: Question) -> Window
     )
 }
 
-// What a question is answered: the refusal of the clipped single call, or its value.
+// What a question is answered. What it promises is said of the two slices and the records that C lends, so these are passed, and not the list alone: the refusal of the clipped single call, or its value.
 pub fn reply_to(
     question: Question,
     m: u32,

@@ -1,7 +1,7 @@
 -- The way down of a walk that asks the list, from the block where a turn begins: no block within the window is broken into, what select gives below the
 -- key stays the same, and the place from which the next search begins serves. Rests on Steps, Asked and Below.
 use Prim.Native.Nat.{ℕ, ◌≤◌}
-use mathlib.Core.Path.{◌≡◌, refl, ◌∙◌}
+use mathlib.Core.Path.{◌≡◌, ◌∙◌}
 use mathlib.Core.Bool.{false}
 use mathlib.Core.List.{List}
 use native.Mathlib.Omega.{arith}
@@ -24,10 +24,6 @@ pub record Descent (m : ℕ) (p : Picture) (w : Window) (f : ℕ) (keys : List �
   pub gap : lower begun.key (select_in m p w f) ≡ lower s.key (select_in m p w f)
 
 module _ {m : ℕ} (p : Picture) (w : Window) (f : ℕ) {keys : List ℕ} {n from : ℕ} where
-  -- a turn begins
-  pub descent_begins : {s : Spot} → Walking m w s → Near keys n from s.key → Descent m p w f keys n from s s
-  descent_begins h near = record { walking = h; rise = omega arith; near = near; gap = refl }
-
   -- into a block that the window cuts, from its own place on
   pub descent_enters : {begun s : Spot} → Descent m p w f keys n from begun s → (place : ℕ) → Near keys n place s.key → Parent m s → is_within s w ≡ false
       → Descent m p w f keys n place begun (first_quadrant s)

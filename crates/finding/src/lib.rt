@@ -31,6 +31,8 @@ pub struct Sifting {
     pub hidden: usize,
 }
 
+// The two slices that findings are written to go from function to function one by one, as the C interface lends them: a type of two `&mut` slices would
+// only wrap them at each call.
 // One finding: it is hidden if the waivers cover its block, and otherwise written and live.
 fn sift(
     job: &Job<'_>,

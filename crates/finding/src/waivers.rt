@@ -13,7 +13,7 @@ pub struct Covering {
     pub next: u32,
 }
 
-// How far the waivers are passed, their furthest end, and whether they cover the block.
+// How far the waivers are passed, their furthest end, and whether they cover the block: three answers, each told whatever the others are.
 #[derive(Clone, Copy)]
 pub struct Settled {
     pub passed: usize,

@@ -5,8 +5,8 @@ use mathlib.Core.Bool.{Bool, true, false, ◌&&◌}
 use mathlib.Core.List.{List}
 use native.Mathlib.Omega.{arith}
 use lib.ListN.{get_or}
-use lib.Dec.{leb, ltb}
-use borrow.Author.Tests.{lt-ltb, le-ltb, le-leb, lt-leb}
+use lib.Dec.{leb}
+use borrow.Author.Tests.{lt-ltb, le-ltb, le-leb}
 use Rattle.keys.proofs.Cases.{split}
 use Rattle.definitions.specs.Window.{is_window}
 use Rattle.definitions.specs.Rules.{window_of_rule, is_rule}
@@ -28,10 +28,6 @@ others_hold a true c e f = rw (e, f)
 others_hold a false c e f = rw e
 
 module _ (rule : Rule) (st : RunNumbers) where
-  pub may_low : rule.id < st.next → false ≡ may_come rule st
-  unfolding is_rule
-  may_low h = first_fails (leb st.next rule.id) (is_window st.m (window_of_rule rule)) (ltb rule.feature st.s) (lt-leb _ _ h)
-
   pub may_feature : st.s ≤ rule.feature → false ≡ may_come rule st
   unfolding is_rule
   may_feature h = last_fails (leb st.next rule.id) (is_window st.m (window_of_rule rule)) _ (le-ltb _ _ h)

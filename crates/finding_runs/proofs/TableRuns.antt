@@ -130,11 +130,6 @@ module _ (keys bits ids waived : List ℕ) where
   between_is : (st : RunNumbers) (l : List ℕ) → between st l ≡ own_part st l
   between_is st l = let e : st.offset + st.waivers - st.offset ≡ st.waivers = omega arith in ap (λ n. take n (drop st.offset l)) e
 
-  pub ready_cut : (p : Progress) → TableReady keys bits ids waived p → RulesReady keys bits (between p.state ids) (between p.state waived) p
-  ready_cut p h =
-      subst (λ x. RulesReady keys bits x (between p.state waived) p) (sym (between_is p.state ids))
-      (subst (λ y. RulesReady keys bits (own_part p.state ids) y p) (sym (between_is p.state waived)) h.own)
-
   pub step_cut : (rule : Rule) (p : Progress) → rule_step keys bits (between p.state ids) (between p.state waived) rule p ≡ table_step keys bits ids waived rule p
   unfolding table_step
   step_cut rule p = ap₂ (λ x y. rule_step keys bits x y rule p) (between_is p.state ids) (between_is p.state waived)

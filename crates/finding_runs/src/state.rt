@@ -33,6 +33,7 @@ impl Mode {
     }
 }
 
+// `faulty` is no flag of a value beside it: with a wrong waiver the rules are still looked at, since 13 comes before 14.
 // Where a run over the rules stands: the settings and the number of records; which of the three runs it is; the refusal, if it is refused; the least id that the next rule may have;
 // whether a waiver is wrong; where the asking office's rows begin, how many they are and how many are passed; how many findings may be written, and how many have room; and how many
 // were live and hidden. A run that bounds has in `live` a number that the live findings do not exceed.

@@ -48,9 +48,6 @@ module _ (office : ℕ) (offices : List ℕ) where
     pub few : count ≤ i
     pub all : office_times office offices ≡ count + office_times office (drop i offices)
 
-  pub count_begins : OfficeCounting 0 0
-  count_begins = record { few = omega arith; all = omega arith }
-
   pub count_found : (i count : ℕ) → i < length offices → get_or offices i 0 ≡ office → OfficeCounting i count → OfficeCounting (i + 1) (count + 1)
   count_found i count more e c =
       let here = ap (office_times office) (drop-cons offices i 0 more) ∙ times_own office _ _ e in
@@ -89,9 +86,6 @@ module _ (offices ids waived : List ℕ) where
   pub record RowsDecide (next : ℕ) : Type 0 where
     pub begun : 1 ≤ next
     pub rest : rows_ascend table ≡ rows_ascend (drop (next - 1) table)
-
-  pub order_begins : RowsDecide 1
-  order_begins = record { begun = omega arith; rest = refl }
 
   module _ (h : OneLength offices ids waived) where
     two_rows : (next : ℕ) → 1 ≤ next → next < length offices → drop (next - 1) table ≡ row_at offices ids waived (next - 1) ∷ (row_at offices ids waived next ∷ drop (suc next) table)

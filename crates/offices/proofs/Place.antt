@@ -50,9 +50,6 @@ module _ (w : Waiver) (offices ids waived : List ℕ) where
   abbrev pub Searched : ℕ → Type 0
   Searched place = row_place w t ≡ place + row_place w (drop place t)
 
-  pub search_begins : Searched 0
-  search_begins = omega arith
-
   module _ (h : OneLength offices ids waived) where
     stops : (place : ℕ) → place < length offices → Searched place → row_before (row_at offices ids waived place) w ≡ false → row_place w t ≡ place
     stops place more inv e =

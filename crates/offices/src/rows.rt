@@ -1,4 +1,5 @@
-// A place made and a place given up in one of the slices.
+// A place made and a place given up in one of the slices. C lends the three of a table one by one, with places past the rows that stay as they are, so the
+// number of rows goes beside each.
 ghost use Rattle.std.specs.Prelude.{◌≡◌, ◌≤◌, ◌<◌, length};
 ghost use Rattle.offices.specs.Place.{opened, gap_closed};
 
