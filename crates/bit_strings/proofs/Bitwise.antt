@@ -3,12 +3,11 @@ use Prim.Native.Nat.{ℕ, zero, suc, ◌+◌, ◌-◌, ◌*◌, ◌^◌, ◌≤�
 use mathlib.Core.Path.{◌≡◌, refl, sym, ap, ap₂, ◌∙◌}
 use mathlib.Core.Bool.{Bool, true, false, cond}
 use mathlib.Core.List.{List, [], ◌∷◌, ◌++◌}
-use native.Mathlib.Nat.{zero-add, add-zero, sub-zero, pow-suc, zero-mul, one-mul, add-mul, mul_assoc, mul_comm}
+use native.Mathlib.Nat.{zero-add, add-zero, pow-suc, zero-mul, one-mul, add-mul, mul_assoc, mul_comm}
 use native.Mathlib.Numerals.{add-one}
 use native.Mathlib.Omega.{arith}
 use lib.ListN.{length, get_or, drop, set, length-set, length-drop}
-use lib.Pow.{pow_mono}
-use lib.Seq.{get_or-drop, drop-drop, paste, paste-suc, paste-zero, take-length}
+use lib.Seq.{get_or-drop, drop-drop, paste, paste-suc, take-length}
 use Rattle.definitions.specs.Buffer.{over}
 use Rattle.definitions.specs.BitStrings.{high_first, packed_in}
 use Rattle.bit_strings.specs.Strings.{string_of, Picked, ByteFilled}

@@ -10,12 +10,11 @@ use lib.Seq.{drop-cons, drop-drop, paste, paste-zero}
 use lib.Dec.{eqb}
 use Rattle.keys.proofs.Cases.{split}
 use Rattle.definitions.specs.List.{Record, record_of, keys_of, values_of}
-use Rattle.definitions.specs.Buffer.{over}
 use Rattle.definitions.specs.BitStrings.{bits_in, key_after, leaf_value, inner_value, records_from, records_of_pair}
 use Rattle.bit_strings.specs.Steps.{next_bit, Fits}
 use Rattle.bit_strings.proofs.NextBit.{drop-on, told_one}
 use Rattle.bit_strings.proofs.Passing.{records_past, records_leaf, records_inner}
-use Rattle.bit_strings.proofs.Bitwise.{one_more, paste_all}
+use Rattle.bit_strings.proofs.Bitwise.{one_more}
 
 -- what the first of the records that are left says
 pub record First (m x : ℕ) (nodes leaves : List Bool) (e : Record) (l : List Record) : Type 0 where

@@ -1,12 +1,12 @@
 -- `write::write_bit_strings`: each way out answers what the definition does there. Rests on WriteAnswers.
-use Rattle.std.proofs.Common.{ℕ, Bool, true, false, ◌||◌, ◌≡◌, ◌<◌, ◌≤◌, ◌+◌, ◌-◌, ◌/◌, length, refl, sym, ◌∙◌, ap, ap₂, arith}
+use Rattle.std.proofs.Common.{ℕ, Bool, true, false, ◌||◌, ◌≡◌, ◌<◌, ◌≤◌, ◌+◌, ◌-◌, ◌/◌, length, refl, ◌∙◌, ap, ap₂}
 use borrow.Author.Tests.{lt-ltb, le-ltb}
 use lib.Dec.{ltb}
 use Rattle.definitions.specs.Buffer.{over}
 use Rattle.definitions.specs.BitStrings.{packed_in}
 use Rattle.definitions.proofs.Refused.{refusal_some}
 use Rattle.bit_strings.specs.Strings.{string_of}
-use Rattle.bit_strings.proofs.WriteAnswers.{refused_early, roomy, too_short, all_written}
+use Rattle.bit_strings.proofs.WriteAnswers.{refused_early, too_short, all_written}
 use Rattle.bit_strings.proofs.write.write_bit_strings.Goals as goal
 use Rattle.bit_strings.proofs.write.write_bit_strings.Goals.{then-nodes-node_bytes-via-then-nodes-node_bytes, then-nodes-node_bytes-via-else-nodes-node_bytes+then-leaves-leaf_bytes}
 
@@ -30,8 +30,8 @@ pub returns-then-nodes-node_bytes : goal.returns-then-nodes-node_bytes
 returns-then-nodes-node_bytes c =
     let short : (ltb (length c.args.nodes.now) ((c.args.n + 7) / 8) || ltb (length c.args.leaves.now) ((c.args.n - c.args.n / 4 + 7) / 8)) ≡ true =
     elim c.then-nodes-node_bytes.branch [
-      then-nodes-node_bytes-via-then-nodes-node_bytes w ↦ short_first _ _ _ w.if-nodes-node_bytes.true
-    | then-nodes-node_bytes-via-else-nodes-node_bytes+then-leaves-leaf_bytes w ↦ short_second _ _ _ w.if-leaves-leaf_bytes.true
+      | then-nodes-node_bytes-via-then-nodes-node_bytes w ↦ short_first _ _ _ w.if-nodes-node_bytes.true
+      | then-nodes-node_bytes-via-else-nodes-node_bytes+then-leaves-leaf_bytes w ↦ short_second _ _ _ w.if-leaves-leaf_bytes.true
     ] in
     let h = too_short _ _ _ _ _ _ _ c.in-Ok.ensures.told short in
     record { value = rw c.into-then-nodes-node_bytes.ensures h.0; nodes_after = h.1.0; leaves_after = h.1.1 }
