@@ -59,7 +59,3 @@ module _ {m : ℕ} {t : Spot} (h : BlockSpot m t) where
         let l = ap length is in
         let n = ap (λ x. x * s) e in
         omega arith
-
--- a number below 16 times few slots is small
-pub place_small : (b s : ℕ) → b < 16 → s ≤ slot_limit → b * s ≤ 512
-place_small b s h i = let e = mul-le-mul {n₁ = b} {m₁ = s} {n₂ = 16} {m₂ = 32} (omega arith) i in omega arith

@@ -1,4 +1,5 @@
 // The call that gives an area (specification S8.10). It refuses by its table, and requires nothing.
+// Its parameters are those of the C function, one by one.
 ghost use Rattle.std.specs.Prelude.{◌≡◌, IfOk};
 ghost use Rattle.definitions.specs.Refused.{refusal_told};
 ghost use Rattle.definitions.specs.Answered.{as_measured};

@@ -1,5 +1,6 @@
 // The calls that ask a window that may reach over the edge: each is the strict call on the clipped window. They refuse by the strict tables, and
 // require nothing.
+// Their parameters are those of the C functions, one by one.
 ghost use Rattle.std.specs.Prelude.{◌≡◌};
 ghost use Rattle.definitions.specs.Answered.{as_exists, as_reported, as_counted, as_measured};
 ghost use Rattle.definitions.specs.Calls.Clipped.{exist_clipped, report_clipped, select_clipped, select_answer_clipped, area_clipped};

@@ -103,15 +103,6 @@ accepted_window m w e =
       columns = leb-true _ _ (and_right (leb (w.row + w.height) (2 ^ m)) _ ends);
     }
 
-pub window_accepted : (m : ℕ) (w : Window) → AcceptedWindow m w → is_window m w ≡ true
-unfolding is_window
-window_accepted m w h =
-    and_both _ _ (and_both _ _ (le-leb _ _ h.some_row) (le-leb _ _ h.some_column)) (and_both _ _ (le-leb _ _ h.rows) (le-leb _ _ h.columns))
-
--- a window that cannot be one of the map is none
-pub no_window : (m : ℕ) (w : Window) → (AcceptedWindow m w → ⊥) → is_window m w ≡ false
-no_window m w h = decide (is_window m w) (λ e. absurd (h (accepted_window m w e))) (λ e. e)
-
 -- the pixels of a window of the map are pixels of the map
 pub window_pixel : (m : ℕ) (w : Window) (row column : ℕ) → is_window m w ≡ true → in_window w row column ≡ true → (row < 2 ^ m) × (column < 2 ^ m)
 window_pixel m w row column e i = let h = accepted_window m w e in let j = inside_window w row column i in omega arith

@@ -138,13 +138,6 @@ parting_first {m} {w} {s} h p e t i f lo hi =
     let j = within_inside t w f in
     not_within s w e (omega arith)))
 
--- what follows is the block with that key, or the end
-pub follows_at : (m x : ℕ) (r : Option Spot) (t : Spot) → Follows m x r → r ≡ Some t → BlockSpot m t × (t.key ≡ x)
-follows_at m x r t h e = subst (λ y. Follows m x y) e h
-
-pub follows_gone : (m x : ℕ) (r : Option Spot) → Follows m x r → r ≡ None → x ≡ 5 ^ m
-follows_gone m x r h e = subst (λ y. Follows m x y) e h
-
 -- after a block fewer keys are left
 pub rises : {m : ℕ} {s : Spot} → BlockSpot m s → (x : ℕ) → s.key < x → 5 ^ m - x < 5 ^ m - s.key
 rises h x after = let k = some_keys h in omega arith

@@ -38,17 +38,6 @@ use Rattle.walk.proofs.Steps.{one_spot, one_side}
 use Rattle.walk.proofs.SpotBits.{bits_at}
 use Rattle.walk.proofs.Asked.{asked_place, near_place, near_later}
 
--- what is told, by the standing
-module _ {m : ℕ} {keys bits : List ℕ} {n : ℕ} {s : Spot} where
-  pub tells_listed : (place records : ℕ) → BlockSpot m s → standing_of m s.key (records_of keys bits n) ≡ Listed place records
-      → Tells m keys bits n s (record { place = place; last = place + (records - 1); whole = s })
-  tells_listed place records h is = record { place = ap place_in (sym is); last = ap last_in (sym is); whole = h; key = ap (whole_in s.key) (sym is) }
-
-  pub tells_inside : (place leaf level : ℕ) (w : Spot) → BlockSpot m w → w.key ≡ leaf → standing_of m s.key (records_of keys bits n) ≡ Inside place leaf level
-      → Tells m keys bits n s (record { place = place; last = place; whole = w })
-  tells_inside place leaf level w h e is =
-      record { place = ap place_in (sym is); last = ap last_in (sym is); whole = h; key = e ∙ ap (whole_in s.key) (sym is) }
-
 -- the block of a valid key, with the numbers that its key and level give
 pub spot_of_key : {m κ row column side step : ℕ} → (level : ℕ) → valid_key m κ ≡ true → (row ≡ row_of m κ) × (column ≡ column_of m κ) × (side ≡ side_of m κ)
     → level ≡ level_of m κ

@@ -6,6 +6,7 @@ ghost use Rattle.definitions.specs.Window.{is_window};
 use definitions::Window;
 use keys::power;
 
+// The fact stays a clause of whoever is given a window: a window is the struct that C passes, and the raster is the list's.
 #[tactic(auto, unfolding(definitions::specs::Window::is_window))]
 pub fn is_window(m: u32, window: Window) -> bool
     requires { m ≤ 10 }

@@ -13,7 +13,8 @@ pub mod lying;
 use definitions::Window;
 use keys::{Key, power};
 
-// Where the walk stands: a block with its key, its first row and column, its side, and the number of its keys.
+// Where the walk stands: a block with its key, its first row and column, its side, and the number of its keys. That these are a block's is said in clauses,
+// since it depends on the map's m, which a spot does not carry.
 #[derive(Clone, Copy, PartialEq, Eq, Debug)]
 pub struct Spot {
     pub key: u32,

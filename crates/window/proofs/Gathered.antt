@@ -2,13 +2,13 @@
 -- its slot. A block within the window adds its bits, and so does a block of one feature that meets it; a block with nothing new is passed. Rests on
 -- the walk's laws of a block's bits and the meaning of report.
 use Prim.Native.Nat.{ℕ, ◌+◌, ◌^◌, ◌≤◌, ◌<◌}
-use mathlib.Core.Path.{◌≡◌, refl, sym, ◌∙◌, ap, subst}
-use mathlib.Core.Bool.{Bool, true, false, true≢false, ◌||◌}
+use mathlib.Core.Path.{◌≡◌, sym, ◌∙◌, ap, subst}
+use mathlib.Core.Bool.{true, false, true≢false, ◌||◌}
 use mathlib.Core.Logic.{⊎_elim}
 use native.Mathlib.Omega.{arith}
 use lib.Bits.{bit_or}
 use lib.Dec.{eqb}
-use borrow.Author.Tests.{eqb-true, eq-eqb, ne_eqb}
+use borrow.Author.Tests.{eqb-true}
 use Rattle.keys.specs.Block.{pixel_key}
 use Rattle.keys.proofs.Cases.{split, or_either, or_left, or_right, neither_right, same_test}
 use Rattle.keys.proofs.Pixel.{pixel_key-lt}
@@ -28,20 +28,7 @@ use Rattle.walk.proofs.Steps.{in_spot}
 use Rattle.walk.proofs.SpotBits.{bits_at, whole_pixel}
 use Rattle.window.specs.Settled.{settles}
 
--- the three tests one after the other
 module _ (union bits : ℕ) (s : Spot) (w : Window) where
-  pub settles_none : bit_or union bits ≡ union → true ≡ settles union bits s w
-  unfolding settles
-  settles_none e = sym (or_left (eqb (bit_or union bits) union) (one_slot bits || is_within s w) (eq-eqb (bit_or union bits) union e))
-
-  pub settles_one : one_slot bits ≡ true → true ≡ settles union bits s w
-  unfolding settles
-  settles_one e = sym (or_right (eqb (bit_or union bits) union) (one_slot bits || is_within s w) (or_left (one_slot bits) (is_within s w) e))
-
-  pub settles_else : (bit_or union bits ≡ union → ⊥) → one_slot bits ≡ false → (r : Bool) → r ≡ is_within s w → r ≡ settles union bits s w
-  unfolding settles
-  settles_else e f r is = is ∙ sym (rw (ne_eqb (bit_or union bits) union e, f) refl)
-
   -- a block that nothing settles does not lie within the window
   pub not_settled : settles union bits s w ≡ false → is_within s w ≡ false
   unfolding settles

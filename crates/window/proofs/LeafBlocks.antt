@@ -119,13 +119,6 @@ module _ {m : ℕ} {w : Window} {s : Spot} (h : Walking m w s) where
   pub onward_first : is_within s w ≡ false → Parent m s → Onward m w s (Some (first_quadrant s))
   onward_first cut q = (record { stands = first_stands q; parting = parting_first h q cut }, comes_first cut q _ refl)
 
--- it comes to a block, or to the end of the map
-pub onward_at : (m : ℕ) (w : Window) (s : Spot) (r : Option Spot) (t : Spot) → Onward m w s r → r ≡ Some t → Walking m w t × Comes m w s t.key
-onward_at m w s r t o e = subst (λ y. Onward m w s y) e o
-
-pub onward_gone : (m : ℕ) (w : Window) (s : Spot) (r : Option Spot) → Onward m w s r → r ≡ None → Comes m w s (5 ^ m)
-onward_gone m w s r o e = subst (λ y. Onward m w s y) e o
-
 -- the run through a leaf, from the key x on: what was given below the key y, whatever the picture, as long as it has the feature from x to the leaf's end
 module _ (m : ℕ) (w : Window) (limit end x count : ℕ) (before : List ℕ) where
   pub record Reached (y : ℕ) (answer : List ℕ) (given : ℕ) : Type 0 where

@@ -1,4 +1,5 @@
 // The calls that ask a window (specification S6): exist, report and select. They refuse by their tables, and require nothing.
+// Their parameters are those of the C functions, one by one.
 ghost use Rattle.std.specs.Prelude.{◌≡◌, IfOk};
 ghost use Rattle.definitions.specs.Refused.{refusal_told};
 ghost use Rattle.definitions.specs.Answered.{as_exists, as_reported, as_counted};

@@ -13,6 +13,8 @@ use keys::power;
 use list::accepted_list::Accepted;
 use walk::{Spot, asking};
 
+// The answer, its limit and the count so far stay parameters by themselves: a contract says of each what a call may change.
+
 // Gives the keys of the records from one place up to another that have exactly the bit.
 fn gather_run(
     keys: &[u32],
@@ -107,37 +109,28 @@ pub fn gather(
                 break;
             }
             let told = asking::ask(list, from, spot);
-            let place = told.place;
-            let last = told.last;
-            let whole = told.whole;
-            let found = list.bits[place];
+            let found = list.bits[told.place];
             if found & bit == 0 {
-                spot = whole;
-                from = last;
+                spot = told.whole;
+                from = told.last;
                 break;
             }
             if found == bit {
-                count = gather_leaf(list.m, window, whole, spot, answer, limit, count);
-                spot = whole;
-                from = last;
+                count = gather_leaf(list.m, window, told.whole, spot, answer, limit, count);
+                spot = told.whole;
+                from = told.last;
                 break;
             }
             if walk::within(spot, window) {
+                let end = told.last + 1;
                 count = gather_run(
-                    list.keys,
-                    list.bits,
-                    place,
-                    last + 1,
-                    bit,
-                    answer,
-                    limit,
-                    count,
+                    list.keys, list.bits, told.place, end, bit, answer, limit, count,
                 );
-                spot = whole;
-                from = last;
+                spot = told.whole;
+                from = told.last;
                 break;
             }
-            from = place;
+            from = told.place;
             spot = walk::first(spot);
         }
         let Some(next) = walk::after(list.m, spot) else {

@@ -67,14 +67,8 @@ loop-from-init c =
       measured = measured_none _ _ _ _ _ c.start-spot.ensures.1 c.requires.asked.2;
     }
 
-pub loop-from-2-init : goal.loop-from-2-init
-loop-from-2-init c = c.loop-from.invariant
-
 pub apart-requires : goal.apart-requires
 apart-requires c = small _ _ _ c.args.list.now.deepest c.requires.asked.2 c.loop-from-2.invariant.stands
-
-pub place_from-from-requires : goal.place_from-from-requires
-place_from-from-requires c = c.loop-from-2.invariant.near
 
 pub offset_bounds-list-from : goal.offset_bounds-list-from
 offset_bounds-list-from c = omega (arith, in_bits c.args.list.now.own c.loop-from-2.invariant.stands _ c.place_from-from.ensures, c.well_formed)
@@ -120,9 +114,6 @@ loop-from-2-preserved c =
     let g = c.loop-from-2.invariant in
     let mixed = mixed_at own g.stands _ _ c.power_of_two-bit.ensures _ c.place_from-from.ensures c.if-found-bit-eq0.false c.if-found-bit.false in
     rw c.first-spot.ensures (enters _ _ _ _ _ _ c.requires.asked.2 g _ (near_place own _ _ c.place_from-from.ensures) (mixed_parent g.stands mixed))
-
-pub after-requires : goal.after-requires
-after-requires c = (c.args.list.now.deepest, c.loop-from-2.invariant.stands)
 
 -- whichever way a turn ended, what the block adds is counted
 passed : (c : After-after)

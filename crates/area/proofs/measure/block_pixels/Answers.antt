@@ -1,24 +1,12 @@
 -- `measure::block_pixels` meets its contract: a block of the summary's level has its count at the place of its number, a smaller one is tallied.
 use mathlib.Core.Path.{◌∙◌}
 use native.Mathlib.Omega.{arith}
-use Rattle.area.proofs.BlockCount.{side_most, area_fits, place_small}
+use Rattle.area.proofs.BlockCount.{side_most, area_fits}
 use Rattle.area.proofs.WholeBlock.{bit_one, mixed_node, place_room, place_counted, tally_counted}
 use Rattle.area.proofs.measure.block_pixels.Goals as goal
 
 pub overflow_mul-side : goal.overflow_mul-side
 overflow_mul-side c = let h = side_most c.requires.2 c.args.list.now.deepest in omega arith
-
-pub overflow_mul-place : goal.overflow_mul-place
-overflow_mul-place c = let h = place_small _ _ c.number_of.ensures.1 c.requires.0 in omega arith
-
-pub overflow_add-place : goal.overflow_add-place
-overflow_add-place c = let h = place_small _ _ c.number_of.ensures.1 c.requires.0 in omega (arith, c.requires)
-
-pub overflow_cast-result : goal.overflow_cast-result
-overflow_cast-result c = let h = place_small _ _ c.number_of.ensures.1 c.requires.0 in omega (arith, c.requires)
-
-pub offset_bounds-summary-place : goal.offset_bounds-summary-place
-offset_bounds-summary-place c = let h = place_small _ _ c.number_of.ensures.1 c.requires.0 in omega (arith, c.requires)
 
 pub bounds-summary-place : goal.bounds-summary-place
 bounds-summary-place c = place_room c.requires.2 c.requires.1 (c.if-side-power_of_two.true ∙ c.power_of_two.ensures) _ c.number_of.ensures.0 c.requires.3

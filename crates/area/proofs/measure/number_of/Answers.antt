@@ -11,14 +11,8 @@ nonzero_div-digits c = let d = digits_in c.requires.1 c.requires.2 in omega arit
 pub overflow_sub-result : goal.overflow_sub-result
 overflow_sub-result c = let d = digits_in c.requires.1 c.requires.2 in omega arith
 
-pub overflow_mul-result : goal.overflow_mul-result
-overflow_mul-result c = let d = digits_in c.requires.1 c.requires.2 in omega arith
-
 pub overflow_sub-result-2 : goal.overflow_sub-result-2
 overflow_sub-result-2 c = let d = digits_in c.requires.1 c.requires.2 in omega arith
-
-pub overflow_add-result : goal.overflow_add-result
-overflow_add-result c = let d = digits_in c.requires.1 c.requires.2 in omega arith
 
 pub returns : goal.returns
 unfolding summary_number

@@ -1,7 +1,6 @@
 -- `overlap::overlap` meets its contract: the block and the window have rows and columns in common, and neither more than 1024.
 use mathlib.Core.Path.{ap₂}
 use Prim.Native.Nat.{◌*◌}
-use native.Mathlib.Nat.{mul-le-mul}
 use native.Mathlib.Omega.{arith}
 use Rattle.walk.proofs.Lies.{not_apart}
 use Rattle.area.specs.Overlap.{overlap_of}
@@ -12,9 +11,6 @@ shared-rows-requires c = let j = not_apart _ _ c.requires.1 in omega (arith, c.r
 
 pub shared-columns-requires : goal.shared-columns-requires
 shared-columns-requires c = let j = not_apart _ _ c.requires.1 in omega (arith, c.requires.0)
-
-pub overflow_mul-result : goal.overflow_mul-result
-overflow_mul-result c = let h = mul-le-mul c.shared-rows.ensures.1 c.shared-columns.ensures.1 in omega arith
 
 pub returns : goal.returns
 unfolding overlap_of

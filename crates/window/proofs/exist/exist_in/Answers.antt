@@ -19,14 +19,8 @@ use Rattle.window.proofs.exist.exist_in.Goals.{After-after, then-apart, else-apa
 pub walk-init : goal.walk-init
 walk-init c = (going_root c.args.list.now.own c.start-spot.ensures.0, unseen_none _ _ _ _ _ c.start-spot.ensures.1)
 
-pub loop-place-init : goal.loop-place-init
-loop-place-init c = c.walk.invariant
-
 pub apart-requires : goal.apart-requires
 apart-requires c = small _ _ _ c.args.list.now.deepest c.requires.0 c.loop-place.invariant.0.stands
-
-pub place_from-place-requires : goal.place_from-place-requires
-place_from-place-requires c = c.loop-place.invariant.0.near
 
 pub offset_bounds-list-place : goal.offset_bounds-list-place
 offset_bounds-list-place c =
@@ -59,17 +53,6 @@ loop-place-preserved c =
     let near = near_place c.args.list.now.own _ _ c.place_from-place.ensures in
     rw c.first-spot.ensures
     (going_first at.0 parent _ near, unseen_clear _ _ _ _ _ _ at.1 (clear_first _ c.requires.0 parent))
-
-pub after-requires : goal.after-requires
-after-requires c =
-    let stands = c.loop-place.invariant.0.stands in (
-      c.args.list.now.deepest,
-      elim c.if-apart.branch [
-        | then-apart w ↦ rw w.spot-is stands
-        | else-apart+then-found-bit-eq0+then-is_short w ↦ rw w.spot-is stands
-        | else-apart+then-found-bit-eq0+else-is_short w ↦ rw w.spot-is w.ask-told.ensures.whole
-      ],
-    )
 
 -- a block is passed
 past : (c : After-after) → WalkPast c.args.list.now.m c.args.list.now.keys.now (length c.args.list.now.keys.now) c.if-apart.from c.walk.spot.key c.if-apart.spot

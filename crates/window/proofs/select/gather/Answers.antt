@@ -1,7 +1,7 @@
 -- `select::gather` meets its contract: a block that lies apart from the window or lacks the feature is passed, and so is one of which the leaves or largest
 -- blocks were given; a block that the window cuts is entered by its first quadrant. Rests on walk's Going and on Taken.
 use Prim.Native.Nat.{ℕ, ◌+◌, ◌≤◌}
-use mathlib.Core.Path.{refl, sym, ◌∙◌}
+use mathlib.Core.Path.{sym, ◌∙◌}
 use mathlib.Core.List.{List}
 use native.Mathlib.Omega.{arith}
 use lib.ListN.{length}
@@ -31,22 +31,16 @@ loop-told-init c =
     let root = c.start-spot.ensures in
     (going_root c.args.list.now.own root.0, walking_root _ _ _ root.0 root.1, taken_none _ _ _ _ _ _ _ root.1)
 
-pub loop-told-2-init : goal.loop-told-2-init
-loop-told-2-init c = (c.loop-told.invariant.0, c.loop-told.invariant.1, record { answers = refl; counts = refl; gap = refl })
-
 pub apart-requires : goal.apart-requires
 apart-requires c = small _ _ _ c.args.list.now.deepest c.requires.0 c.loop-told-2.invariant.0.stands
 
-pub ask-told-requires : goal.ask-told-requires
-ask-told-requires c = (c.loop-told-2.invariant.0.stands, c.loop-told-2.invariant.0.near)
-
-pub offset_bounds-list-place : goal.offset_bounds-list-place
-offset_bounds-list-place c =
+pub offset_bounds-list-told : goal.offset_bounds-list-told
+offset_bounds-list-told c =
     let list = c.args.list.now in
     omega (arith, told_bits list.deepest list.own c.loop-told-2.invariant.0.stands c.ask-told.ensures, c.well_formed)
 
-pub bounds-list-place : goal.bounds-list-place
-bounds-list-place c = let list = c.args.list.now in told_bits list.deepest list.own c.loop-told-2.invariant.0.stands c.ask-told.ensures
+pub bounds-list-told : goal.bounds-list-told
+bounds-list-told c = let list = c.args.list.now in told_bits list.deepest list.own c.loop-told-2.invariant.0.stands c.ask-told.ensures
 
 -- a leaf of the feature
 pub gather_leaf-count-requires : goal.gather_leaf-count-requires
@@ -74,8 +68,8 @@ fits c =
     let told = c.ask-told.ensures in
     told_fits list.deepest list.own stands told _ _ bit (told_several list.deepest list.own stands told _ _ bit (omega arith) c.if-found-bit.false)
 
-pub overflow_add-last : goal.overflow_add-last
-overflow_add-last c = omega (arith, fits (goal.at.overflow_add-last c).Else-found-bit, c.well_formed)
+pub overflow_add-end : goal.overflow_add-end
+overflow_add-end c = omega (arith, fits (goal.at.overflow_add-end c).Else-found-bit, c.well_formed)
 
 pub gather_run-count-requires : goal.gather_run-count-requires
 gather_run-count-requires c =
@@ -160,18 +154,6 @@ passed c =
           rw (w.spot-is, told_end list.deepest list.own stands told listed)
           (taken_named _ _ _ _ (taken_block _ _ _ _ c.loop-told-2.invariant.1 largest t _ _ gave) _ _ w.answer-is w.count-is)
     ]
-
-pub after-requires : goal.after-requires
-after-requires c =
-    let stands = c.loop-told-2.invariant.0.stands in (
-      c.args.list.now.deepest,
-      elim c.if-apart.branch [
-        | then-apart w ↦ rw w.spot-is stands
-        | else-apart+then-found-bit-eq0 w ↦ rw w.spot-is w.ask-told.ensures.whole
-        | else-apart+else-found-bit-eq0+then-found-bit w ↦ rw w.spot-is w.ask-told.ensures.whole
-        | else-apart+else-found-bit-eq0+else-found-bit+then-within w ↦ rw w.spot-is w.ask-told.ensures.whole
-      ],
-    )
 
 pub returns-in_default : goal.returns-in_default
 returns-in_default c = taken_end _ _ _ _ (passed (goal.at.returns-in_default c).After-after) c.in_default.ensures

@@ -20,17 +20,6 @@ loop-answer-init c =
 pub within-held-requires : goal.within-held-requires
 within-held-requires c = small _ _ _ c.requires.0 c.requires.1 c.loop-answer.invariant.walking.stands
 
-pub write_within-requires : goal.write_within-requires
-write_within-requires c = omega (arith, c.loop-answer.invariant.reached.size, c.requires.3)
-
-pub overflow_add-given : goal.overflow_add-given
-overflow_add-given c =
-    let r = c.loop-answer.invariant in
-    record { fits = omega (arith, r.reached.few, few_keys c.requires.0 r.walking.stands, c.requires.4) }
-
-pub onward-requires : goal.onward-requires
-onward-requires c = (c.requires.0, c.requires.1, c.loop-answer.invariant.walking, c.within-held.ensures)
-
 -- what was given where the walk comes to
 reached : (c : After-onward) (y : ℕ) → Comes c.args.m c.args.window c.loop-answer.spot y
     → Reached c.args.m c.args.window c.args.limit (c.args.leaf.key + c.args.leaf.step) c.args.first.key c.args.count c.args.answer.now y c.if-held.answer c.if-held.given
