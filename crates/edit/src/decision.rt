@@ -1,4 +1,4 @@
-// What paint, take back and redo share: the refusals that they test first, and what a call goes by that is not refused.
+// The refusals that paint, take back and redo test first, and what a paint goes by that is not refused.
 ghost use Rattle.std.specs.Prelude.{◌≡◌, IfOk};
 ghost use Rattle.definitions.specs.Calls.Edit.{as_lent};
 ghost use Rattle.definitions.specs.Refused.{refusal_told};
@@ -10,13 +10,6 @@ use definitions::refusal::Refusal;
 use edit_log::entry::Entry;
 use list::accepted_list::Accepted;
 use replace::plan::Plan;
-
-// An entry of the log, which is taken back or redone, and a plan for the list.
-#[derive(Clone, Copy)]
-pub struct Granted {
-    pub entry: Entry,
-    pub plan: Plan,
-}
 
 // The entry that a paint logs, where the block's former content stands, and a plan for the list.
 #[derive(Clone, Copy)]

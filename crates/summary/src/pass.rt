@@ -1,4 +1,6 @@
-// A list checked and its blocks counted in one pass: each node is counted where it is checked, so that its records are read once.
+// A list checked and its blocks counted in one pass: each node is counted where it is checked, so that its records are read once. Nearly all nodes have four
+// or sixteen pixels, so these have functions of their own, without recursion. A node's place, key, bits and step are passed side by side: a struct of them would
+// be built for each child and taken apart at once.
 ghost use Rattle.std.specs.Prelude.{cond, ◌+◌, ◌≤◌, Some, None};
 ghost use Rattle.summary.specs.Pass.{PassAsked, PassAnswered};
 
@@ -6,7 +8,8 @@ use crate::count;
 use keys::Key;
 use list::check;
 
-// After the own record of a node of four pixels: whether the next four records are its pixels. If so they are counted.
+// After the own record of a node of four pixels: whether the next four records are its pixels. If so they are counted. The answer is no place: so the machine
+// need not wait for the tests to know where to read on.
 fn pass_pixels(
     keys: &[u32],
     bits: &[u32],

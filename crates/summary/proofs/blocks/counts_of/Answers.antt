@@ -1,4 +1,4 @@
--- `blocks::counts_of` meets its contract: the key is that of a block of the summary's height.
+-- The key is that of a block of the summary's height.
 use Prim.Native.Nat.{ℕ, ◌^◌, ◌<◌}
 use mathlib.Core.Path.{◌≡◌, sym, ◌∙◌, ap, ap₂}
 use mathlib.Core.Bool.{true}
@@ -22,12 +22,6 @@ module _ (m b key : ℕ) (h : b < 4 ^ summary_level m) (e : key ≡ block_key m 
       → counts ≡ counts_of 32 p (height_of m key) (row_of m key) (column_of m key)
       → counts ≡ counts_of 32 p (summary_height m) (row_of m (block_key m b)) (column_of m (block_key m b))
   counted p counts f = f ∙ ap₂ (λ k κ. counts_of 32 p k (row_of m κ) (column_of m κ)) height e
-
-pub key_of-key-requires : goal.key_of-key-requires
-key_of-key-requires c = (c.args.list.now.deepest, c.requires)
-
-pub area_of-area-requires : goal.area_of-area-requires
-area_of-area-requires c = c.args.list.now.deepest
 
 pub count_block-requires : goal.count_block-requires
 count_block-requires c =

@@ -1,10 +1,9 @@
--- `blocks::have_length` meets its contract: at most 16 blocks have s places each.
+-- At most 16 blocks have s places each.
 use Prim.Native.Nat.{ℕ, ◌*◌, ◌^◌, ◌<◌}
 use mathlib.Core.Path.{◌≡◌, ap}
 use native.Mathlib.Nat.{mul-le-mul_right}
 use native.Mathlib.Omega.{arith}
 use lib.Dec.{eqb}
-use borrow.Author.Rules.{rules}
 use Rattle.definitions.specs.Area.{summary_level, summary_length}
 use Rattle.summary.proofs.BlockNumbers.{number_most}
 use Rattle.summary.proofs.blocks.have_length.Goals as goal
@@ -18,11 +17,5 @@ places_fit m s blocks e h =
 same_length : (m s blocks long : ℕ) → blocks ≡ 4 ^ summary_level m → eqb long (blocks * s) ≡ eqb long (summary_length m s)
 same_length m s blocks long e = ap (λ b. eqb long (b * s)) e
 
-pub number_of-requires : goal.number_of-requires
-number_of-requires c = search rules
-
 pub overflow_mul-result : goal.overflow_mul-result
 overflow_mul-result c = record { fits = places_fit _ _ _ c.number_of.ensures c.ranges.s.fits }
-
-pub returns : goal.returns
-returns c = same_length c.args.m c.args.s _ _ c.number_of.ensures

@@ -1,8 +1,7 @@
--- `blocks::key_of` meets its contract: a block's two digits are those of its number in base 4, each one more.
+-- A block's two digits are those of its number in base 4, each one more.
 use Prim.Native.Nat.{ℕ, ◌+◌, ◌*◌, ◌/◌, ◌%◌, ◌-◌, ◌^◌, ◌≤◌}
 use mathlib.Core.Path.{◌≡◌, ap, ◌∙◌}
 use native.Mathlib.Omega.{arith}
-use borrow.Author.Rules.{rules}
 use Rattle.definitions.specs.Area.{block_key}
 use Rattle.summary.proofs.BlockNumbers.{number_most, key_none, key_one, key_two, key_fits}
 use Rattle.summary.proofs.blocks.key_of.Goals as goal
@@ -13,26 +12,8 @@ returns-then-m-eq0 c = key_none c.args.m c.args.b (omega arith)
 pub overflow_cast-number : goal.overflow_cast-number
 overflow_cast-number c = let h = number_most c.args.m in omega (arith, c.requires.1)
 
-pub overflow_add-result : goal.overflow_add-result
-overflow_add-result c = let h = number_most c.args.m in omega (arith, c.requires.1)
-
 pub returns-then-m-eq1 : goal.returns-then-m-eq1
 returns-then-m-eq1 c = key_one c.args.m c.args.b (omega arith)
-
-pub overflow_sub-m : goal.overflow_sub-m
-overflow_sub-m c = search rules
-
-pub power_of_five-step-requires : goal.power_of_five-step-requires
-power_of_five-step-requires c = search rules
-
-pub overflow_mul-result : goal.overflow_mul-result
-overflow_mul-result c = let h = number_most c.args.m in omega (arith, c.requires.1)
-
-pub overflow_add-result-2 : goal.overflow_add-result-2
-overflow_add-result-2 c = let h = number_most c.args.m in omega (arith, c.requires.1)
-
-pub overflow_add-result-3 : goal.overflow_add-result-3
-overflow_add-result-3 c = let h = number_most c.args.m in omega (arith, c.requires.1)
 
 pub overflow_mul-result-2 : goal.overflow_mul-result-2
 overflow_mul-result-2 c =

@@ -1,21 +1,11 @@
 -- Block after block the places are compared with what is counted.
 use native.Mathlib.Omega.{arith}
 use Rattle.list.specs.Taken.{picture_listed}
-use Rattle.summary.proofs.Renewed.{block_places_in, places_few}
-use Rattle.summary.proofs.IsSummary.{none_right, length-right, length-wrong, all_right, block_wrong, block_right}
+use Rattle.summary.proofs.IsSummary.{length-right, length-wrong, all_right, block_wrong, block_right}
 use Rattle.summary.proofs.check.is_summary.Goals as goal
 
 pub returns-then-not-have_length : goal.returns-then-not-have_length
 returns-then-not-have_length c = length-wrong _ _ _ _ _ c.have_length.ensures c.if-not-have_length.true
-
-pub loop-b-init : goal.loop-b-init
-loop-b-init c = none_right _ _ _ _
-
-pub overflow_mul-at : goal.overflow_mul-at
-overflow_mul-at c =
-    let h = block_places_in c.args.counted.now.list.m c.args.s c.loop-b.b (omega (arith, c.number_of-blocks.ensures)) in
-    let f = places_few c.args.counted.now.list.m c.args.s c.requires in
-    omega arith
 
 pub loop-b-preserved : goal.loop-b-preserved
 loop-b-preserved c =

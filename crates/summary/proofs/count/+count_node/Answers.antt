@@ -1,10 +1,10 @@
--- `count::count_node` meets its contract: after each turn the counters have the pixels of the quadrants passed. The area falls.
+-- After each turn the counters have the pixels of the quadrants passed. The area falls.
 use mathlib.Core.Path.{refl, sym, ◌∙◌}
-use mathlib.Core.Logic.{⊎_elim}
 use native.Mathlib.Omega.{arith}
 use Rattle.list.proofs.Shown.{shown_room}
 use Rattle.summary.proofs.CountTurn.{reached_none, reached_all, next_room, next_slots, counts_room, child_asked, leaf_turn, node_turn, less}
 use Rattle.summary.proofs.count.+count_node.Goals as goal
+use Rattle.summary.proofs.count.+count_node.Goals.{then-is_leaf, else-is_leaf+then-quarter-eq16, else-is_leaf+else-quarter-eq16}
 
 pub overflow_add-next : goal.overflow_add-next
 overflow_add-next t c = let e = shown_room c.requires.0.shown in omega (arith, c.well_formed)
@@ -56,12 +56,14 @@ pub loop-d-preserved : goal.loop-d-preserved
 loop-d-preserved t c =
     let h = c.loop-d-test.true in
     let slot = c.is_leaf.ensures in
-    ⊎_elim
-    (λ w. leaf_turn c.loop-d.invariant _ _ (omega (arith, h)) c.requires.1.long (sym slot ∙ w.if-is_leaf.true) (w.counts-is ∙ w.count_leaf.ensures) w.next-is)
-    (⊎_elim
-    (λ w. node_turn c.loop-d.invariant _ _ _ _ _ (omega (arith, h)) w.if-quarter-eq16.true (sym slot ∙ w.if-is_leaf.false) w.count_sixteen-next.ensures w.counts-is w.next-is)
-    (λ w. node_turn c.loop-d.invariant _ _ _ _ _ (omega (arith, h)) refl (sym slot ∙ w.if-is_leaf.false) w.count_node-next.ensures w.counts-is w.next-is))
-    c.if-is_leaf.branch-raw
+    elim c.if-is_leaf.branch [
+      | then-is_leaf w ↦
+          leaf_turn c.loop-d.invariant _ _ (omega (arith, h)) c.requires.1.long (sym slot ∙ w.if-is_leaf.true) (w.counts-is ∙ w.count_leaf.ensures) w.next-is
+      | else-is_leaf+then-quarter-eq16 w ↦
+          node_turn c.loop-d.invariant _ _ _ _ _ (omega (arith, h)) w.if-quarter-eq16.true (sym slot ∙ w.if-is_leaf.false) w.count_sixteen-next.ensures w.counts-is w.next-is
+      | else-is_leaf+else-quarter-eq16 w ↦
+          node_turn c.loop-d.invariant _ _ _ _ _ (omega (arith, h)) refl (sym slot ∙ w.if-is_leaf.false) w.count_node-next.ensures w.counts-is w.next-is
+    ]
 
 pub returns : goal.returns
 returns t c = reached_all c.loop-d.invariant (omega (arith, c.loop-d-test.false))

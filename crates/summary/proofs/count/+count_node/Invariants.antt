@@ -1,4 +1,4 @@
--- `count::count_node` meets its contract: after each turn the counters have the pixels of the quadrants passed. The area falls.
+-- The counters have the pixels of the quadrants before number d, whose records end at `next`. The area falls with each call.
 use Rattle.summary.proofs.CountTurn.{CountReached}
 use Rattle.summary.proofs.count.+count_node.Given as goal
 

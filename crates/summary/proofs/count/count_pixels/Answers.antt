@@ -1,4 +1,4 @@
--- `count::count_pixels` meets its contract: the four records after the node's own are leaves, and each adds its pixel.
+-- The four records after the node's own are leaves, and each adds its pixel.
 use native.Mathlib.Omega.{arith}
 use Rattle.summary.proofs.FourPixels.{turn_nw, turn_ne, turn_sw, turn_se, four_counted, four_there}
 use Rattle.summary.proofs.count.count_pixels.Goals as goal

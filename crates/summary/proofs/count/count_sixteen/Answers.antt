@@ -1,11 +1,11 @@
--- `count::count_sixteen` meets its contract: after each turn the counters have the pixels of the quadrants passed.
+-- After each turn the counters have the pixels of the quadrants passed.
 use mathlib.Core.Path.{refl, sym, ◌∙◌}
-use mathlib.Core.Logic.{⊎_elim}
 use native.Mathlib.Omega.{arith}
 use Rattle.list.proofs.Shown.{shown_room}
 use Rattle.summary.proofs.CountTurn.{reached_none, reached_all, next_room, next_slots, counts_room, child_asked, leaf_turn, node_turn}
 use Rattle.summary.proofs.FourPixels.{four_there}
 use Rattle.summary.proofs.count.count_sixteen.Goals as goal
+use Rattle.summary.proofs.count.count_sixteen.Goals.{then-is_leaf, else-is_leaf}
 
 pub overflow_add-next : goal.overflow_add-next
 overflow_add-next c = let e = shown_room c.requires.0.shown in omega (arith, c.well_formed)
@@ -54,10 +54,12 @@ pub loop-d-preserved : goal.loop-d-preserved
 loop-d-preserved c =
     let h = c.loop-d-test.true in
     let slot = c.is_leaf.ensures in
-    ⊎_elim
-    (λ w. leaf_turn c.loop-d.invariant _ _ (omega (arith, h)) c.requires.1.long (sym slot ∙ w.if-is_leaf.true) (w.counts-is ∙ w.count_leaf.ensures) w.next-is)
-    (λ w. node_turn c.loop-d.invariant _ _ _ _ _ (omega (arith, h)) refl (sym slot ∙ w.if-is_leaf.false) w.count_pixels.ensures w.counts-is w.next-is)
-    c.if-is_leaf.branch-raw
+    elim c.if-is_leaf.branch [
+      | then-is_leaf w ↦
+          leaf_turn c.loop-d.invariant _ _ (omega (arith, h)) c.requires.1.long (sym slot ∙ w.if-is_leaf.true) (w.counts-is ∙ w.count_leaf.ensures) w.next-is
+      | else-is_leaf w ↦
+          node_turn c.loop-d.invariant _ _ _ _ _ (omega (arith, h)) refl (sym slot ∙ w.if-is_leaf.false) w.count_pixels.ensures w.counts-is w.next-is
+    ]
 
 pub returns : goal.returns
 returns c = reached_all c.loop-d.invariant (omega (arith, c.loop-d-test.false))

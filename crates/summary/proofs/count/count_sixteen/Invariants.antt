@@ -1,4 +1,4 @@
--- `count::count_sixteen` meets its contract: after each turn the counters have the pixels of the quadrants passed.
+-- The counters have the pixels of the quadrants before number d, whose records end at `next`.
 use Rattle.summary.proofs.CountTurn.{CountReached}
 use Rattle.summary.proofs.count.count_sixteen.Given as goal
 

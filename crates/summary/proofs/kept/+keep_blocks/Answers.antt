@@ -1,20 +1,11 @@
--- `kept::keep_blocks` meets its contract: before each turn the children passed so far are checked, and their blocks are kept. It ends because a call
+-- Before each turn the children passed so far are checked, and their blocks are kept. It ends because a call
 -- for a child has a fifth of the step.
 use mathlib.Core.Path.{sym, ◌∙◌}
 use native.Mathlib.Omega.{arith}
 use Rattle.list.proofs.Turn.{short, other_key, differs}
-use Rattle.summary.proofs.KeptRows.{keeping_begins, step_less, keep_refuses, keep_passes, number_fits, keep_leaf, keep_asked, keep_wrong, keep_node}
+use Rattle.summary.proofs.KeptRows.{keeping_begins, step_less, keep_refuses, keep_passes, keep_leaf, keep_asked, keep_wrong, keep_node}
 use Rattle.summary.proofs.kept.+keep_blocks.Goals as goal
 use Rattle.summary.proofs.kept.+keep_blocks.Goals.{then-has_one_slot, else-has_one_slot+in_ok-next}
-
-pub keep_block-requires : goal.keep_block-requires
-keep_block-requires t c = rw c.if-share-eq1.true at c.requires
-
-pub returns-then-share-eq1 : goal.returns-then-share-eq1
-returns-then-share-eq1 t c = c.keep_block.ensures
-
-pub overflow_add-next : goal.overflow_add-next
-overflow_add-next t c = omega (arith, c.requires.node.there)
 
 pub loop-digit-init : goal.loop-digit-init
 loop-digit-init t c = keeping_begins c.requires c.if-share-eq1.false
@@ -23,37 +14,9 @@ pub returns-then-keys-next : goal.returns-then-keys-next
 returns-then-keys-next t c =
     keep_refuses c.requires c.if-share-eq1.false c.loop-digit.invariant (short c.loop-digit.invariant.checked c.loop-digit-test.true c.if-keys-next.true)
 
-pub child-child-requires : goal.child-child-requires
-child-child-requires t c =
-    let v = c.loop-digit.invariant.checked in
-    (omega (arith, v.fits), omega (arith, c.loop-digit-test.true))
-
-pub offset_bounds-keys-next : goal.offset_bounds-keys-next
-offset_bounds-keys-next t c = omega arith
-
-pub bounds-keys-next : goal.bounds-keys-next
-bounds-keys-next t c = omega arith
-
 pub returns-then-keys-next-2 : goal.returns-then-keys-next-2
 returns-then-keys-next-2 t c =
     keep_refuses c.requires c.if-share-eq1.false c.loop-digit.invariant (other_key c.loop-digit.invariant.checked c.loop-digit-test.true c.if-keys-next.false c.child-child.ensures c.if-keys-next-2.true)
-
-pub offset_bounds-bits-next : goal.offset_bounds-bits-next
-offset_bounds-bits-next t c = omega arith
-
-pub bounds-bits-next : goal.bounds-bits-next
-bounds-bits-next t c = omega arith
-
-pub has_one_slot-requires : goal.has_one_slot-requires
-has_one_slot-requires t c = tt
-
-pub overflow_add-next-then-has_one_slot : goal.overflow_add-next-then-has_one_slot
-overflow_add-next-then-has_one_slot t c = omega (arith, c.if-keys-next.false)
-
-pub overflow_add-number : goal.overflow_add-number
-overflow_add-number t c =
-    let h = number_fits c.requires c.if-share-eq1.false c.loop-digit.invariant c.loop-digit-test.true in
-    omega arith
 
 pub returns-then-union-own : goal.returns-then-union-own
 returns-then-union-own t c =

@@ -1,5 +1,4 @@
--- `kept::keep_blocks` meets its contract: before each turn the children passed so far are checked, and their blocks are kept. It ends because a call
--- for a child has a fifth of the step.
+-- The children before the digit are checked, and what was counted of their blocks is kept. The step falls with each call.
 use Prim.Native.Nat.{◌/◌}
 use Rattle.summary.proofs.KeptRows.{Keeping}
 use Rattle.summary.proofs.kept.+keep_blocks.Given as goal

@@ -1,20 +1,6 @@
 -- The root is a node of sixteen blocks, and what the pass answers of it is what the check answers of the list.
-use mathlib.Core.Path.{sym}
-use native.Mathlib.Omega.{arith}
-use Rattle.list.proofs.Content.{keys_length, bits_length}
-use Rattle.summary.proofs.KeptList.{none_kept, first_stand, root_asked, root_refused, root_passed, root_short, root_kept}
+use Rattle.summary.proofs.KeptList.{none_kept, root_asked, root_refused, root_passed, root_short}
 use Rattle.summary.proofs.kept.check_list.Goals as goal
-
-pub bounds-bits-0 : goal.bounds-bits-0
-bounds-bits-0 c = let f = c.begins_node.ensures c.if-not-begins_node.false in let z = f.some in omega (arith, f.in-bits)
-
-pub slice_bounds-keep_blocks-end : goal.slice_bounds-keep_blocks-end
-slice_bounds-keep_blocks-end c =
-    sym (keys_length (first_stand {m = c.args.m} (c.begins_node.ensures c.if-not-begins_node.false)))
-
-pub slice_bounds-keep_blocks-end-2 : goal.slice_bounds-keep_blocks-end-2
-slice_bounds-keep_blocks-end-2 c =
-    sym (bits_length (first_stand {m = c.args.m} (c.begins_node.ensures c.if-not-begins_node.false)))
 
 pub keep_blocks-requires : goal.keep_blocks-requires
 keep_blocks-requires c = root_asked (c.begins_node.ensures c.if-not-begins_node.false) c.if-m-lt4.false c.requires.0 c.power_of_five-step.ensures c.area_of-area.ensures (none_kept _ _)
@@ -26,9 +12,6 @@ returns-in_err-end-clause-checked c =
 
 pub returns-then-end-n-clause-checked : goal.returns-then-end-n-clause-checked
 returns-then-end-n-clause-checked c = root_passed (c.begins_node.ensures c.if-not-begins_node.false) c.if-m-lt4.false c.requires.0 c.power_of_five-step.ensures c.area_of-area.ensures c.in_ok-end.ensures c.if-end-n.true
-
-pub returns-then-end-n-clause-known : goal.returns-then-end-n-clause-known
-returns-then-end-n-clause-known c = root_kept (c.begins_node.ensures c.if-not-begins_node.false) c.if-m-lt4.false c.requires.0 c.power_of_five-step.ensures c.area_of-area.ensures c.in_ok-end.ensures
 
 pub returns-else-end-n-clause-checked : goal.returns-else-end-n-clause-checked
 returns-else-end-n-clause-checked c = root_short (c.begins_node.ensures c.if-not-begins_node.false) c.if-m-lt4.false c.requires.0 c.power_of_five-step.ensures c.area_of-area.ensures c.in_ok-end.ensures c.if-end-n.false

@@ -1,14 +1,11 @@
--- `pass::pass_node` meets its contract: before each turn the children passed so far are checked and counted. It ends because a call for a child has a
+-- Before each turn the children passed so far are checked and counted. It ends because a call for a child has a
 -- fifth of the step.
 use mathlib.Core.Path.{sym, ◌∙◌}
 use native.Mathlib.Omega.{arith}
 use Rattle.list.proofs.Turn.{short, other_key, differs}
-use Rattle.summary.proofs.PassTurn.{passing_begins, passing_room, refuses, passes, leaf_passes, node_asked, node_refuses, node_passes, larger, sixteen_asked, sixteen_answered}
+use Rattle.summary.proofs.PassTurn.{passing_begins, refuses, passes, leaf_passes, node_asked, node_refuses, node_passes, larger, sixteen_asked, sixteen_answered}
 use Rattle.summary.proofs.pass.+pass_node.Goals as goal
 use Rattle.summary.proofs.pass.+pass_node.Goals.{then-has_one_slot, else-has_one_slot+then-lower-eq5+in_ok-next, else-has_one_slot+else-lower-eq5+in_ok-next-2}
-
-pub overflow_add-next : goal.overflow_add-next
-overflow_add-next t c = omega (arith, c.requires.0.node.there)
 
 pub loop-digit-init : goal.loop-digit-init
 loop-digit-init t c = passing_begins c.requires.0
@@ -17,36 +14,9 @@ pub returns-then-keys-next : goal.returns-then-keys-next
 returns-then-keys-next t c =
     refuses c.requires.0 c.loop-digit.invariant (short c.loop-digit.invariant.checked c.loop-digit-test.true c.if-keys-next.true)
 
-pub child-child-requires : goal.child-child-requires
-child-child-requires t c =
-    let v = c.loop-digit.invariant.checked in
-    (omega (arith, v.fits), omega (arith, c.loop-digit-test.true))
-
-pub offset_bounds-keys-next : goal.offset_bounds-keys-next
-offset_bounds-keys-next t c = omega arith
-
-pub bounds-keys-next : goal.bounds-keys-next
-bounds-keys-next t c = omega arith
-
 pub returns-then-keys-next-2 : goal.returns-then-keys-next-2
 returns-then-keys-next-2 t c =
     refuses c.requires.0 c.loop-digit.invariant (other_key c.loop-digit.invariant.checked c.loop-digit-test.true c.if-keys-next.false c.child-child.ensures c.if-keys-next-2.true)
-
-pub offset_bounds-bits-next : goal.offset_bounds-bits-next
-offset_bounds-bits-next t c = omega arith
-
-pub bounds-bits-next : goal.bounds-bits-next
-bounds-bits-next t c = omega arith
-
-pub has_one_slot-requires : goal.has_one_slot-requires
-has_one_slot-requires t c = tt
-
-pub count_leaf-requires : goal.count_leaf-requires
-count_leaf-requires t c =
-    (sym c.has_one_slot.ensures ∙ c.if-has_one_slot.true, passing_room c.requires.0 c.loop-digit.invariant c.loop-digit-test.true)
-
-pub overflow_add-next-then-has_one_slot : goal.overflow_add-next-then-has_one_slot
-overflow_add-next-then-has_one_slot t c = omega (arith, c.if-keys-next.false)
 
 pub pass_sixteen-requires : goal.pass_sixteen-requires
 pass_sixteen-requires t c =

@@ -1,5 +1,4 @@
--- `pass::pass_node` meets its contract: before each turn the children passed so far are checked and counted. It ends because a call for a child has a
--- fifth of the step.
+-- The children before the digit are checked and counted, and their records end at `next`. The step falls with each call.
 use Rattle.summary.proofs.PassTurn.{Passing}
 use Rattle.summary.proofs.pass.+pass_node.Given as goal
 

@@ -1,5 +1,4 @@
--- `pass::pass_block` meets its contract: the step 5 is that of sixteen pixels.
-use borrow.Author.Rules.{rules}
+-- The step 5 is that of sixteen pixels.
 use Rattle.summary.proofs.PassTurn.{larger, sixteen_asked, sixteen_answered}
 use Rattle.summary.proofs.pass.pass_block.Goals as goal
 
@@ -13,6 +12,3 @@ pub pass_node-requires : goal.pass_node-requires
 pass_node-requires c =
     let pre = c.requires in
     (pre.0, larger _ _ pre.0.level pre.1 c.if-step-eq5.false)
-
-pub returns : goal.returns
-returns c = search rules

@@ -1,4 +1,4 @@
--- `pass::pass_pixels` meets its contract: four records that the check passes are four pixels to count.
+-- Four records that the check passes are four pixels to count.
 use Rattle.summary.proofs.PassPixels.{pixels_wrong, pixels_shown, pixels_counted}
 use Rattle.summary.proofs.pass.pass_pixels.Goals as goal
 

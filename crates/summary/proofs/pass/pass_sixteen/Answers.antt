@@ -1,14 +1,11 @@
--- `pass::pass_sixteen` meets its contract: before each turn the children passed so far are checked and counted, at the step 5.
+-- Before each turn the children passed so far are checked and counted, at the step 5.
 use mathlib.Core.Path.{sym, ◌∙◌}
 use native.Mathlib.Omega.{arith}
 use Rattle.list.proofs.Turn.{short, other_key, differs}
-use Rattle.summary.proofs.PassTurn.{passing_begins, passing_room, refuses, passes, leaf_passes, node_asked, node_refuses, node_passes}
+use Rattle.summary.proofs.PassTurn.{passing_begins, refuses, passes, leaf_passes, node_refuses, node_passes}
 use Rattle.summary.proofs.PassPixels.{pixels_false, pixels_true}
 use Rattle.summary.proofs.pass.pass_sixteen.Goals as goal
 use Rattle.summary.proofs.pass.pass_sixteen.Goals.{then-has_one_slot, else-has_one_slot+else-not-pass_pixels}
-
-pub overflow_add-next : goal.overflow_add-next
-overflow_add-next c = omega (arith, c.requires.node.there)
 
 pub loop-digit-init : goal.loop-digit-init
 loop-digit-init c = passing_begins c.requires
@@ -17,46 +14,10 @@ pub returns-then-keys-next : goal.returns-then-keys-next
 returns-then-keys-next c =
     refuses c.requires c.loop-digit.invariant (short c.loop-digit.invariant.checked c.loop-digit-test.true c.if-keys-next.true)
 
-pub child-child-requires : goal.child-child-requires
-child-child-requires c =
-    let v = c.loop-digit.invariant.checked in
-    (omega (arith, v.fits), omega (arith, c.loop-digit-test.true))
-
-pub offset_bounds-keys-next : goal.offset_bounds-keys-next
-offset_bounds-keys-next c = omega arith
-
-pub bounds-keys-next : goal.bounds-keys-next
-bounds-keys-next c = omega arith
-
 pub returns-then-keys-next-2 : goal.returns-then-keys-next-2
 returns-then-keys-next-2 c =
     let pre = c.requires in
     refuses pre c.loop-digit.invariant (other_key c.loop-digit.invariant.checked c.loop-digit-test.true c.if-keys-next.false c.child-child.ensures c.if-keys-next-2.true)
-
-pub offset_bounds-bits-next : goal.offset_bounds-bits-next
-offset_bounds-bits-next c =
-    omega arith
-
-pub bounds-bits-next : goal.bounds-bits-next
-bounds-bits-next c =
-    omega arith
-
-pub has_one_slot-requires : goal.has_one_slot-requires
-has_one_slot-requires c = tt
-
-pub count_leaf-requires : goal.count_leaf-requires
-count_leaf-requires c =
-    let pre = c.requires in
-    (sym c.has_one_slot.ensures ∙ c.if-has_one_slot.true, passing_room pre c.loop-digit.invariant c.loop-digit-test.true)
-
-pub overflow_add-next-then-has_one_slot : goal.overflow_add-next-then-has_one_slot
-overflow_add-next-then-has_one_slot c =
-    omega (arith, c.if-keys-next.false)
-
-pub pass_pixels-requires : goal.pass_pixels-requires
-pass_pixels-requires c =
-    let pre = c.requires in
-    node_asked pre c.loop-digit.invariant c.loop-digit-test.true c.if-keys-next.false c.child-child.ensures c.if-keys-next-2.false (sym c.has_one_slot.ensures ∙ c.if-has_one_slot.false) (omega arith)
 
 pub returns-then-union-own : goal.returns-then-union-own
 returns-then-union-own c =
@@ -85,8 +46,3 @@ returns-then-not-pass_pixels c =
     let pre = c.requires in
     node_refuses pre c.loop-digit.invariant c.loop-digit-test.true c.if-keys-next.false c.child-child.ensures c.if-keys-next-2.false (sym c.has_one_slot.ensures ∙ c.if-has_one_slot.false)
     (pixels_false c.pass_pixels.result c.pass_pixels.ensures c.if-not-pass_pixels.true)
-
-pub overflow_add-next-else-has_one_slot : goal.overflow_add-next-else-has_one_slot
-overflow_add-next-else-has_one_slot c =
-    let y = (pixels_true c.pass_pixels.result c.pass_pixels.ensures c.if-not-pass_pixels.false).within in
-    omega arith

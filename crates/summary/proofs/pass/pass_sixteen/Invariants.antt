@@ -1,4 +1,4 @@
--- `pass::pass_sixteen` meets its contract: before each turn the children passed so far are checked and counted, at the step 5.
+-- The children before the digit are checked and counted, at the step 5, and their records end at `next`.
 use Rattle.summary.proofs.PassTurn.{Passing}
 use Rattle.summary.proofs.pass.pass_sixteen.Given as goal
 

@@ -1,4 +1,4 @@
--- `group::last_run` meets its contract: the places of the last step as a run.
+-- The places of the last step as a run.
 use Rattle.undo.proofs.GroupRuns.{group_stepped, run_asked, run_found}
 use Rattle.undo.proofs.group.last_run.Goals as goal
 

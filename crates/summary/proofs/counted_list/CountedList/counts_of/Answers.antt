@@ -7,9 +7,6 @@ use Rattle.summary.proofs.counted_list.CountedList.counts_of.Goals as goal
 pub offset_bounds-self-b : goal.offset_bounds-self-b
 offset_bounds-self-b c = let h = block_few c.args.self.now.list.m c.args.b c.requires in omega arith
 
-pub bounds-self-b : goal.bounds-self-b
-bounds-self-b c = block_few c.args.self.now.list.m c.args.b c.requires
-
 pub bounds : goal.bounds
 bounds c = block_few c.args.self.now.list.m c.args.b c.requires
 
