@@ -1,4 +1,4 @@
--- A group that is redone: what its run and the list ask for, and the call's answers. Rests on Applying and StepAnswers, on
+-- A group that is redone: what its run and the list ask for, and the call's answers. Rests on GroupRuns and StepAnswers, on
 -- RedoPlan and RedoTable.
 use Prim.Native.Nat.{ℕ, ◌+◌, ◌-◌, ◌≤◌}
 use mathlib.Core.Path.{◌≡◌, sym, ◌∙◌, ap, subst}
