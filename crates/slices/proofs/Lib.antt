@@ -1,3 +1,4 @@
 pub mod Sets
+pub mod Moves
 pub mod Writes
 pub mod Parts

@@ -4,7 +4,7 @@ use mathlib.Core.Path.{◌≡◌, sym, ap, ◌∙◌}
 use mathlib.Core.List.{List, ◌++◌}
 use native.Mathlib.Omega.{arith}
 use lib.ListN.{length, take, drop, replicate, length-drop, length-replicate}
-use lib.Seq.{sets, sets-eq, paste, length-take-le, drop-drop}
+use lib.Seq.{sets, length-take-le, drop-drop}
 use borrow.Rule.Slice.PartMut.{put_mid}
 use Rattle.slices.proofs.Sets.{sets_parts}
 
@@ -31,13 +31,3 @@ copied_run from to xs start count at k n read room k_is n_is copied =
     let run : xs ≡ take count (drop start from) = copied ∙ ap (λ i. take i (drop start from)) n_is in
     let size : length xs ≡ k = ap length run ∙ length-take-le count (drop start from) (omega arith) ∙ sym k_is in
     written_run to xs at k (omega arith) size ∙ ap (sets to at) run
-
--- a run of the same slice, moved within it
-pub moved_run : (l : List ℕ) (from count to n : ℕ) → from + count ≤ length l → to + count ≤ length l → n ≡ count
-    → paste l to (drop from l) n ≡ sets l to (take count (drop from l))
-moved_run l from count to n read room n_is =
-    let rest = length-drop from l in
-    let size : length (take count (drop from l)) ≡ count = length-take-le count (drop from l) (omega arith) in
-    ap (λ i. paste l to (drop from l) i) n_is
-    ∙ ap (λ i. take to l ++ take count (drop from l) ++ drop (to + i) l) (sym size)
-    ∙ sym (sets-eq (take count (drop from l)) l to (omega arith))

@@ -1,4 +1,4 @@
-// Moves inside and between lent slices, which the edits are made of. They are the library's own, which move whole runs at a time.
+// Moves inside and between lent slices, which the edits are made of. They are the library's own but for one.
 #![tactic(auto)]
 
 ghost use Rattle.std.specs.Prelude.{◌≡◌, cond, ◌+◌, ◌-◌, ◌≤◌, min, length, take, drop, replicate, set, ltb};
@@ -29,12 +29,37 @@ pub fn copy(from: &[u32], start: usize, count: usize, to: &mut [u32], at: usize)
     to[at..at + count].copy_from_slice(&from[start..start + count]);
 }
 
+// Towards the front: the first place is moved first, so that no place is overwritten before it is read. An edit moves most of a list, and the library's
+// `copy_within` takes half as long again for it.
+fn shift_down(slice: &mut [u32], from: usize, count: usize, to: usize)
+    requires { (to ≤ from) × (from + count ≤ length slice.old) }
+    ensures { slice.new ≡ sets slice.old to (take count (drop from slice.old)) }
+{
+    for i in 0..count {
+        slice[to + i] = slice[from + i];
+    }
+}
+
+// Towards the end: the last place is moved first.
+fn shift_up(slice: &mut [u32], from: usize, count: usize, to: usize)
+    requires { (from ≤ to) × (to + count ≤ length slice.old) }
+    ensures { slice.new ≡ sets slice.old to (take count (drop from slice.old)) }
+{
+    for i in (0..count).rev() {
+        slice[to + i] = slice[from + i];
+    }
+}
+
 // The places from `to` on become what those from `from` on were, so many as `count` says. The two runs may overlap.
 pub fn shift(slice: &mut [u32], from: usize, count: usize, to: usize)
     requires { (from + count ≤ length slice.old) × (to + count ≤ length slice.old) }
     ensures { slice.new ≡ sets slice.old to (take count (drop from slice.old)) }
 {
-    slice.copy_within(from..from + count, to);
+    if to < from {
+        shift_down(slice, from, count, to);
+    } else if from < to {
+        shift_up(slice, from, count, to);
+    }
 }
 
 // The places from `from` up to `end` become zero.

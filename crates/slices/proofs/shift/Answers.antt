@@ -1,8 +1,7 @@
--- `shift` meets its contract: the library's move is one run of `sets`.
-use mathlib.Core.Path.{◌∙◌}
+-- `shift` meets its contract: what stays where it is is not moved. Rests on Moves.
 use native.Mathlib.Omega.{arith}
-use Rattle.slices.proofs.Writes.{moved_run}
+use Rattle.slices.proofs.Moves.{not_moved}
 use Rattle.slices.proofs.shift.Goals as goal
 
-pub returns : goal.returns
-returns c = c.copy_within.ensures.after ∙ moved_run _ _ _ _ _ c.requires.0 c.requires.1 (omega arith)
+pub returns-else-from-to : goal.returns-else-from-to
+returns-else-from-to c = not_moved _ _ _ _ (omega arith) c.requires.0
