@@ -31,8 +31,8 @@ MADE = re.compile(r"(target|lines|night|rattle|out)/|(target|/usr/local|own\.c)$
 PLAIN = {"kit-id", "night-line", "trusted_schema", "port.py"}
 # these tell of names that are gone
 FORMER = ("CHANGELOG.md", "docs/LANDINGS.md")
-# and this one of files that are gone too
-PORT = "docs/PORT.md"
+# and these of files that are gone too
+PORT = ("docs/PORT.md", "docs/DESIGN-PASS.md")
 PATH = re.compile(r"[\w./\-]+")
 DECISION = re.compile(r"[Dd]ecisions? (\d+(?:(?:, | and )\d+)*)")
 
@@ -157,7 +157,7 @@ def count_faults(world):
 
 @lru_cache(maxsize=None)
 def page_faults(name, text):
-    words = [] if name == PORT else words_of(text)
+    words = [] if name in PORT else words_of(text)
     found = [fault for word in words for fault in word_faults(word, name in FORMER)]
     found += [command_fault(line) for line in fenced(text)]
     return [f"{name}: {fault}" for fault in found if fault]
@@ -218,7 +218,7 @@ def everything():
 
 def changed_pages(name, text):
     """A page with one thing wrong, and what that is."""
-    for word in [] if name == PORT else words_of(text):
+    for word in [] if name in PORT else words_of(text):
         if word_faults(word + "x", name in FORMER) and f"`{word}`" in text:
             yield f"{word} is another", text.replace(f"`{word}`", f"`{word}x`")
     for line in sorted(set(fenced(text))):
