@@ -22,12 +22,3 @@ written_zeros l xs from end low high filled =
     let zeros : xs ≡ replicate (end - from) 0 = filled ∙ ap (λ n. replicate n 0) part in
     let size : length xs ≡ end - from = ap length zeros ∙ length-replicate (end - from) 0 in
     written_run l xs from (end - from) (omega arith) size ∙ ap (sets l from) zeros
-
--- a run of another slice, copied over a part
-pub copied_run : (from to xs : List ℕ) (start count at k n : ℕ) → start + count ≤ length from → at + count ≤ length to → k ≡ count → n ≡ count
-    → xs ≡ take n (drop start from) → put_mid at k to xs ≡ sets to at (take count (drop start from))
-copied_run from to xs start count at k n read room k_is n_is copied =
-    let rest = length-drop start from in
-    let run : xs ≡ take count (drop start from) = copied ∙ ap (λ i. take i (drop start from)) n_is in
-    let size : length xs ≡ k = ap length run ∙ length-take-le count (drop start from) (omega arith) ∙ sym k_is in
-    written_run to xs at k (omega arith) size ∙ ap (sets to at) run

@@ -1,4 +1,4 @@
-// Moves inside and between lent slices, which the edits are made of. They are the library's own but for one.
+// Moves inside and between lent slices, which the edits are made of. The loops do nothing but move, since an edit moves most of a list.
 #![tactic(auto)]
 
 ghost use Rattle.std.specs.Prelude.{◌≡◌, cond, ◌+◌, ◌-◌, ◌≤◌, min, length, take, drop, replicate, set, ltb};
@@ -21,12 +21,15 @@ pub fn write_within(answer: &mut [u32], limit: usize, place: usize, number: u32)
     }
 }
 
-// The places from `at` on become what `from` has from `start` on, so many as `count` says.
+// The places from `at` on become what `from` has from `start` on, so many as `count` says. The library's `copy_from_slice` would make the archive want
+// `memmove` of C too, and it wants no more than `memcpy` and `memset`.
 pub fn copy(from: &[u32], start: usize, count: usize, to: &mut [u32], at: usize)
     requires { (start + count ≤ length from.now) × (at + count ≤ length to.old) }
     ensures { to.new ≡ sets to.old at (take count (drop start from.now)) }
 {
-    to[at..at + count].copy_from_slice(&from[start..start + count]);
+    for done in 0..count {
+        to[at + done] = from[start + done];
+    }
 }
 
 // Towards the front: the first place is moved first, so that no place is overwritten before it is read. An edit moves most of a list, and the library's

@@ -84,7 +84,7 @@ module _ {m s : ℕ} {K B : List ℕ} {n : ℕ} (first : FirstNode s K B n) wher
           holds = rw f k;
         }
 
-    root_checked : {kept : List (Option KeptBlock)} {answer : Option ℕ} → KeepingAnswered (take n K) (take n B) kept 0 0 (get_or B 0 0) step area answer
+    pub root_checked : {kept : List (Option KeptBlock)} {answer : Option ℕ} → KeepingAnswered (take n K) (take n B) kept 0 0 (get_or B 0 0) step area answer
         → eqb (unwrap_or answer 0) n ≡ is_list m s K B n
     root_checked {answer = answer} x =
         let up : m ≡ suc (m - 1) = omega arith in

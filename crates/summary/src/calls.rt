@@ -3,6 +3,7 @@ ghost use Rattle.std.specs.Prelude.{◌≡◌};
 ghost use Rattle.definitions.specs.Answered.{as_done};
 ghost use Rattle.definitions.specs.Calls.FillSummary.{fill_summary, filled_summary};
 
+use crate::counted_list::CountedList;
 use crate::{blocks, counting, renew};
 use definitions::refusal::Refusal;
 
@@ -18,10 +19,12 @@ pub fn fill_summary(
     ensures value { as_done result ≡ fill_summary m s keys.now bits.now n summary.old }
     ensures summary_after { summary.new ≡ filled_summary m s keys.now bits.now n summary.old }
 {
-    let counted = counting::accept_counting(m, s, keys, bits, n)?;
+    let mut kept = [None; 16];
+    let list = counting::accept_counting(m, s, keys, bits, n, &mut kept)?;
     if !blocks::have_length(m, s, summary) {
         return Err(Refusal::Summary);
     }
+    let counted = CountedList { list, kept: &kept };
     renew::fill_counted(&counted, s, summary);
     Ok(())
 }

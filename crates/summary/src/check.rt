@@ -43,9 +43,11 @@ pub fn accept<'a>(
     ensures told { refusal_told result ≡ summary_refusal m s keys.now bits.now n summary.now }
     ensures list { IfOk result (Taken m keys.now bits.now n) }
 {
-    let counted = counting::accept_counting(m, s, keys, bits, n)?;
+    let mut kept = [None; 16];
+    let list = counting::accept_counting(m, s, keys, bits, n, &mut kept)?;
+    let counted = CountedList { list, kept: &kept };
     if !is_summary(&counted, s, summary) {
         return Err(Refusal::Summary);
     }
-    Ok(counted.list)
+    Ok(list)
 }

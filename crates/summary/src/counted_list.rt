@@ -10,6 +10,6 @@ use list::accepted_list::Accepted;
 #[derive(Clone, Copy)]
 pub struct CountedList<'a> {
     pub list: Accepted<'a>,
-    pub kept: [Option<KeptBlock>; 16],
-    pub ghost known: { RowsKept list.bits.now (4 ^ summary_height list.m) kept },
+    pub kept: &'a [Option<KeptBlock>; 16],
+    pub ghost known: { RowsKept list.bits.now (4 ^ summary_height list.m) kept.now },
 }

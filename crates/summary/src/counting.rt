@@ -1,14 +1,17 @@
 // A list is accepted and its blocks are counted in one pass; what the pass kept of a block need not be counted again.
-ghost use Rattle.std.specs.Prelude.{◌≡◌, ◌^◌, ◌<◌, IfOk};
-ghost use Rattle.definitions.specs.Area.{summary_level};
+ghost use Rattle.std.specs.Prelude.{◌≡◌, ◌^◌, ◌<◌, take, IfOk};
+ghost use Rattle.definitions.specs.Area.{summary_level, summary_height};
 ghost use Rattle.definitions.specs.Refused.{refusal_told};
 ghost use Rattle.list.specs.First.{first_refusal};
 ghost use Rattle.list.specs.Taken.{Taken};
 ghost use Rattle.summary.specs.Counts.{block_counts};
+ghost use Rattle.summary.specs.Kept.{RowsKept};
 
 use crate::counted_list::CountedList;
+use crate::kept::KeptBlock;
 use crate::{blocks, kept};
 use definitions::refusal::Refusal;
+use list::accepted_list::Accepted;
 use list::{acceptance, settings};
 
 // Refusals 1 and 4, or the list: what every call that asks a list does first.
@@ -18,18 +21,20 @@ pub fn accept_counting<'a>(
     keys: &'a [u32],
     bits: &'a [u32],
     n: usize,
-) -> Result<CountedList<'a>, Refusal>
+    kept: &mut [Option<KeptBlock>; 16],
+) -> Result<Accepted<'a>, Refusal>
+    requires { RowsKept (take n bits.now) (4 ^ summary_height m) kept.old }
     ensures told { refusal_told result ≡ first_refusal m s keys.now bits.now n }
-    ensures list { IfOk result (λ counted. Taken m keys.now bits.now n counted.list) }
+    ensures list { IfOk result (Taken m keys.now bits.now n) }
+    ensures known { RowsKept (take n bits.now) (4 ^ summary_height m) kept.new }
 {
     if settings::are_bad(m, s) {
         return Err(Refusal::Settings);
     }
-    let Some(kept) = kept::check_list(m, s, keys, bits, n) else {
+    if !kept::check_list(m, s, keys, bits, n, kept) {
         return Err(Refusal::List);
-    };
-    let list = acceptance::taken(m, keys, bits, n);
-    Ok(CountedList { list, kept })
+    }
+    Ok(acceptance::taken(m, keys, bits, n))
 }
 
 impl CountedList<'_> {

@@ -94,34 +94,31 @@ fn begins_node(s: u32, keys: &[u32], bits: &[u32], n: usize) -> bool
     keys[0] == Key::ROOT && power::slots_below(own, s) && !check::has_one_slot(own)
 }
 
-// Whether the first n records are there, and are a raster's list at m and s: if so, what is counted of it on the way. That is something at m of 4 and more:
-// then a block of the summary has sixteen pixels or more, as the pass asks.
+// The first n records are there, and are a raster's list at m and s. What is counted on the way is kept, at m of 4 and more: then a block of the summary
+// has sixteen pixels or more, as the pass asks. What is kept is lent, since the two kilobytes of it would be copied on the stack at each return.
 pub fn check_list(
     m: u32,
     s: u32,
     keys: &[u32],
     bits: &[u32],
     n: usize,
-) -> Option<[Option<KeptBlock>; 16]>
-    requires { (m ≤ 10) × (s ≤ slot_limit) }
-    ensures checked { is_some result ≡ is_list m s keys.now bits.now n }
-    ensures known { IfSome result (RowsKept (take n bits.now) (4 ^ summary_height m)) }
+    kept: &mut [Option<KeptBlock>; 16],
+) -> bool
+    requires m_bound { (m ≤ 10) × (s ≤ slot_limit) }
+    requires kept_before { RowsKept (take n bits.now) (4 ^ summary_height m) kept.old }
+    ensures checked { result ≡ is_list m s keys.now bits.now n }
+    ensures known { RowsKept (take n bits.now) (4 ^ summary_height m) kept.new }
 {
-    let mut kept: [Option<KeptBlock>; 16] = [None; 16];
     if m < 4 || !begins_node(s, keys, bits, n) {
-        return if check::is_list(m, s, keys, bits, n) {
-            Some(kept)
-        } else {
-            None
-        };
+        return check::is_list(m, s, keys, bits, n);
     }
     let own = bits[0];
     let step = power::power_of_five(m - 1);
     let area = blocks::area_of(m);
-    let end = keep_blocks(
+    match keep_blocks(
         &keys[..n],
         &bits[..n],
-        &mut kept,
+        kept,
         0,
         Key::ROOT,
         own,
@@ -129,6 +126,8 @@ pub fn check_list(
         area,
         0,
         16,
-    )?;
-    if end == n { Some(kept) } else { None }
+    ) {
+        Some(end) => end == n,
+        None => false,
+    }
 }

@@ -9,18 +9,18 @@ use Rattle.summary.proofs.counting.accept_counting.Goals as goal
 pub returns-then-are_bad-clause-told : goal.returns-then-are_bad-clause-told
 returns-then-are_bad-clause-told c = sym (first_settings _ _ _ _ _ (sym c.are_bad.ensures ∙ c.if-are_bad.true))
 
-pub check_list-requires : goal.check_list-requires
-check_list-requires c = let g = good_settings _ _ (sym c.are_bad.ensures ∙ c.if-are_bad.false) in (g.deep, g.few)
+pub check_list-requires-clause-m_bound : goal.check_list-requires-clause-m_bound
+check_list-requires-clause-m_bound c = let g = good_settings _ _ (sym c.are_bad.ensures ∙ c.if-are_bad.false) in (g.deep, g.few)
 
-pub returns-in_default-clause-told : goal.returns-in_default-clause-told
-returns-in_default-clause-told c =
-    sym (first_no_list _ _ _ _ _ (sym c.are_bad.ensures ∙ c.if-are_bad.false) (ap not (sym c.in_default.ensures.checked)))
+pub returns-then-not-check_list-clause-told : goal.returns-then-not-check_list-clause-told
+returns-then-not-check_list-clause-told c =
+    sym (first_no_list _ _ _ _ _ (sym c.are_bad.ensures ∙ c.if-are_bad.false) (ap not (sym c.check_list.ensures.checked ∙ c.if-not-check_list.true)))
 
-pub taken-list-requires : goal.taken-list-requires
-taken-list-requires c =
+pub taken-requires : goal.taken-requires
+taken-requires c =
     let g = good_settings _ _ (sym c.are_bad.ensures ∙ c.if-are_bad.false) in
-    (g.deep, own_list _ _ _ _ _ (sym c.in-Some.ensures.checked))
+    (g.deep, own_list _ _ _ _ _ (sym c.check_list.ensures.checked ∙ c.if-not-check_list.false))
 
 pub returns-clause-told : goal.returns-clause-told
 returns-clause-told c =
-    sym (first_good _ _ _ _ _ (sym c.are_bad.ensures ∙ c.if-are_bad.false) (ap not (sym c.in-Some.ensures.checked)))
+    sym (first_good _ _ _ _ _ (sym c.are_bad.ensures ∙ c.if-are_bad.false) (ap not (sym c.check_list.ensures.checked ∙ c.if-not-check_list.false)))
