@@ -263,8 +263,9 @@ def stopped(tool, folder, words, sign, whole_group):
     if os.path.exists(told):
         os.unlink(told)
     env = dict(tool.env, TMPDIR=folder + "/temporary", PATH=f"{folder}/programs:{os.environ['PATH']}")
+    # a gate that runs in the background ignores Ctrl-C, and its children would too
     running = subprocess.Popen(tool.program + words, cwd=tool.folder, env=env, stdout=subprocess.DEVNULL,
-                               start_new_session=True)
+                               start_new_session=True, preexec_fn=lambda: signal.signal(sign, signal.SIG_DFL))
     until = time.monotonic() + 60
     while not os.path.exists(told) or os.path.getsize(told) == 0:
         must(running.poll() is None and time.monotonic() < until, f"{words}: no program of GDAL's was started")
