@@ -87,7 +87,7 @@ def called(function, words):
         elif place in (other.type, other.file.stem) or (place == other.crate and is_at_the_root(other)):
             if crate == other.crate:
                 yield other
-        elif place not in names_of_places() and other.type:  # a type parameter: any impl may be meant
+        elif other.type and is_a_type_parameter(place, function):  # any impl may be meant
             yield other
 
 
@@ -98,9 +98,10 @@ def is_at_the_root(function):
     return function.file.stem in ("lib", "main") or f"pub use {function.file.stem}::{function.name};" in root.read_text()
 
 
-@lru_cache(maxsize=None)
-def names_of_places():
-    return {name for function in code()[0] for name in (function.type, function.file.stem, function.crate)}
+def is_a_type_parameter(name, function):
+    """The function's head declares the name. None declares u32: what converts between numbers means no impl of ours."""
+    head = function.contract.split("(")[0]
+    return re.search(rf"[<,]\s*{name}\b", head) is not None
 
 
 @lru_cache(maxsize=None)
@@ -301,7 +302,10 @@ def self_test():
                        ("full_before_there", "hlq_remove_waiver"), ("kinds_exchanged", "hlq_part"),
                        ("part_past_the_leaf", "hlq_standing"), ("report_fixed_reply", "hlq_exist"),
                        ("version_2_for_16_slots", "hlq_paint"), ("load_length_before_settings", "hlq_store"),
-                       ("emptying_leaves_a_record", "hlq_paint"), ("first_rule_only", "hlq_batch")):
+                       ("emptying_leaves_a_record", "hlq_paint"), ("first_rule_only", "hlq_batch"),
+                       *(("kinds_exchanged", call) for call in (  # these convert numbers, and no standing
+                           "hlq_build", "hlq_batch", "hlq_combine", "hlq_load", "hlq_load_log",
+                           "hlq_write_bit_strings", "hlq_read_bit_strings"))):
         moved = re.sub(rf"\b{name}\b,? ?", "", text)
         row = next(line for line in moved.split("\n") if line.startswith("| ") and f"`{call}`" in line)
         changes.append((f"{name} stands at {call}", moved.replace(row, row + f" {name} |"), demanded, declared, edits))

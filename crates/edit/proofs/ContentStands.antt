@@ -27,7 +27,7 @@ use Rattle.list.proofs.Among.{values_of_records}
 use Rattle.list.proofs.Own.{own-length}
 use Rattle.list.proofs.Fuller.{listed_standing, inside_standing, listed_part, inside_part}
 use Rattle.replace.specs.Family.{block_bits}
-use Rattle.edit.specs.Content.{content_in, content_count}
+use Rattle.edit.specs.Content.{content_in, content_count, former_by, former_of}
 use Rattle.edit_log.specs.declared.entry.Entry.{Entry}
 use Rattle.edit_log.specs.Entries.{records_from_place, Loggable, Logged}
 use Rattle.edit.specs.PaintCall.{Fresh}
@@ -59,7 +59,7 @@ module _ {m n : ℕ} {keys bits : List ℕ} (own : OwnList m keys bits n) where
       let h = place_lt x (records_of keys bits n) (omega arith) in
       omega arith
 
--- what a standing tells of the content: how many records it has, and whether the block is listed, and where
+-- what a standing tells of the content: how many records it has, and where it is found
 module _ (m κ : ℕ) (l : List Record) {standing : Standing} (is : standing ≡ standing_of m κ l) where
   pub standing_count : content_count standing ≡ part_length m κ l
   standing_count =
@@ -68,11 +68,20 @@ module _ (m κ : ℕ) (l : List Record) {standing : Standing} (is : standing ≡
       (λ t. ap content_count (sym (listed_standing m κ l t)) ∙ sym (listed_part m κ l t))
       (λ t. ap content_count (sym (inside_standing m κ l t)) ∙ sym (inside_part m κ l t))
 
-  pub standing_listed : {place records : ℕ} → standing ≡ Listed place records → (is_listed κ l ≡ true) × (place ≡ place_of κ l)
-  standing_listed e = decide (is_listed κ l) (λ t. let h = listed_standing m κ l t in (t, cc)) (λ t. let h = inside_standing m κ l t in cc)
+  pub former_stands : former_by standing ≡ former_of m κ l
+  former_stands =
+      ap former_by is
+      ∙ decide (is_listed κ l)
+      (λ t. ap former_by (sym (listed_standing m κ l t)) ∙ (λ i. record { listed = sym t i; place = place_of κ l; count = sym (listed_part m κ l t) i }))
+      (λ t. ap former_by (sym (inside_standing m κ l t)) ∙ (λ i. record { listed = sym t i; place = place_of κ l; count = sym (inside_part m κ l t) i }))
 
-  pub standing_inside : {place leaf level : ℕ} → standing ≡ Inside place leaf level → (is_listed κ l ≡ false) × (place ≡ place_of κ l)
-  standing_inside e = decide (is_listed κ l) (λ t. let h = listed_standing m κ l t in cc) (λ t. let h = inside_standing m κ l t in (t, cc))
+-- what a standing that is right of the content says: whether the block is listed, and where
+module _ (m κ : ℕ) (l : List Record) {standing : Standing} (is : former_by standing ≡ former_of m κ l) where
+  pub former_listed : {place records : ℕ} → standing ≡ Listed place records → (is_listed κ l ≡ true) × (place ≡ place_of κ l)
+  former_listed e = let h = sym (ap former_by e) ∙ is in (sym (ap (λ x. x.listed) h), ap (λ x. x.place) h)
+
+  pub former_inside : {place leaf level : ℕ} → standing ≡ Inside place leaf level → (is_listed κ l ≡ false) × (place ≡ place_of κ l)
+  former_inside e = let h = sym (ap former_by e) ∙ is in (sym (ap (λ x. x.listed) h), ap (λ x. x.place) h)
 
 -- the new entry of a list's block is one of an accepted list that was taken
 pub fresh_taken : {m n : ℕ} {keys bits log_keys log_values : List ℕ} {new : Entry} {list : Accepted} → Taken m keys bits n list

@@ -1,11 +1,10 @@
 // What a paint logs: the block's former content, as the block's standing tells it. Its length decides refusal 10 before anything is written.
 ghost use Rattle.std.specs.Prelude.{◌≡◌, ◌≤◌, length};
 ghost use Rattle.definitions.specs.Read.{room};
-ghost use Rattle.definitions.specs.Standing.{standing_of};
 ghost use Rattle.definitions.specs.Calls.Paint.{gained};
 ghost use Rattle.list.specs.Taken.{records_listed};
 ghost use Rattle.edit_log.specs.Entries.{Logged};
-ghost use Rattle.edit.specs.Content.{content_count};
+ghost use Rattle.edit.specs.Content.{content_count, former_by, former_of};
 ghost use Rattle.edit.specs.PaintCall.{Fresh, Relogged};
 
 use definitions::Standing;
@@ -33,7 +32,7 @@ pub fn log_content(
     log_values: &mut [u32],
 ) -> usize
     requires fresh { Fresh list.now.m list.now.keys.now list.now.bits.now (length list.now.keys.now) new log_keys.old log_values.old }
-    requires standing_value { standing ≡ standing_of list.now.m new.key (records_listed list.now) }
+    requires former_value { former_by standing ≡ former_of list.now.m new.key (records_listed list.now) }
     ensures { Logged (gained list.now.m (records_listed list.now) new.key new.feature) new.start
         log_keys.old log_values.old log_keys.new log_values.new result }
 {
@@ -59,7 +58,7 @@ pub fn log_paint(
 ) -> usize
     requires fresh { Fresh list.now.m list.now.keys.now list.now.bits.now (length list.now.keys.now) new log_keys.old log_values.old }
     requires used_there { used ≤ room log_keys.old log_values.old }
-    requires standing_value { standing ≡ standing_of list.now.m new.key (records_listed list.now) }
+    requires former_value { former_by standing ≡ former_of list.now.m new.key (records_listed list.now) }
     ensures { Relogged (gained list.now.m (records_listed list.now) new.key new.feature) new.start used
         log_keys.old log_values.old log_keys.new log_values.new result }
 {

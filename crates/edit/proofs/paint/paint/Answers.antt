@@ -1,13 +1,15 @@
 -- A refusal leaves all as it is; else the entry is logged while the list still has the former content, and then the block is filled.
-use mathlib.Core.Path.{ap, ap₂, subst}
+use mathlib.Core.Path.{◌≡◌, sym, ◌∙◌, ap, ap₂, subst}
 use native.Mathlib.Omega.{arith}
 use Rattle.std.proofs.lemmas.Result.{err_from_is_err_and}
+use Rattle.definitions.specs.Standing.{standing_of}
 use Rattle.definitions.specs.Calls.Paint.{gained}
 use Rattle.definitions.proofs.Refused.{refusal_some}
 use Rattle.laws.proofs.Edits.{edit_refused}
+use Rattle.list.specs.Taken.{records_listed}
 use Rattle.list.proofs.Taken.{taken_records}
 use Rattle.edit.specs.PaintCall.{Relogged}
-use Rattle.edit.proofs.ContentStands.{fresh_taken}
+use Rattle.edit.proofs.ContentStands.{former_stands, fresh_taken}
 use Rattle.edit.proofs.EditCallTables.{passed_settings, passed_summary, passed_used}
 use Rattle.edit.proofs.PaintPlan.{paint_own, paint_outdated, paint_counted}
 use Rattle.edit.proofs.PaintTable.{paint_passed, paint_sheet, paint_fits, paint_paintable, paint_fresh, paint_done}
@@ -31,6 +33,16 @@ log_paint-logged-requires-clause-fresh c =
 pub log_paint-logged-requires-clause-used_there : goal.log_paint-logged-requires-clause-used_there
 log_paint-logged-requires-clause-used_there c =
     passed_used (paint_sheet (paint_passed c.args.m c.args.s c.args.keys.now c.args.bits.now c.args.n c.args.summary.now c.args.log_keys.now c.args.log_values.now c.args.used c.args.in_force c.args.key c.args.feature c.in_ok-grant.ensures.told))
+
+pub log_paint-logged-requires-clause-former_value : goal.log_paint-logged-requires-clause-former_value
+log_paint-logged-requires-clause-former_value c =
+    let new = c.in_ok-grant.grant.new in
+    let list = c.taken-former.result in
+    let key_is : new.key ≡ c.args.key = ap (λ g. g.new.key) c.in_ok-grant.ensures.granted in
+    let is : c.in_ok-grant.grant.standing ≡ standing_of list.m new.key (records_listed list) =
+    ap (λ g. g.standing) c.in_ok-grant.ensures.granted
+    ∙ (λ i. standing_of (sym c.taken-former.ensures.map i) (sym key_is i) (sym (taken_records c.taken-former.ensures) i)) in
+    former_stands _ _ _ is
 
 pub fill-after-requires-clause-paintable : goal.fill-after-requires-clause-paintable
 fill-after-requires-clause-paintable c =
