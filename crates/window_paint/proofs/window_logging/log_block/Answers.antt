@@ -1,6 +1,6 @@
 -- `window_logging::log_block` meets its contract: the content that was found is what is logged, and the next search can begin at its place.
 use Rattle.std.proofs.Common.{◌∙◌, ap, ◌^◌, arith}
-use Rattle.edit.proofs.ContentStands.{standing_count}
+use Rattle.edit.proofs.ContentStands.{standing_count, former_stands}
 use Rattle.window_paint.proofs.WindowSearch.{found_after}
 use Rattle.window_paint.proofs.window_logging.log_block.Goals as goal
 
@@ -23,7 +23,7 @@ log_content-end-requires c =
         whole = c.content_count.ensures ∙ standing_count _ _ _ c.stand_from-standing.ensures;
         fits = c.requires.feature_bound;
       };
-      standing_value = c.stand_from-standing.ensures;
+      former_value = former_stands _ _ _ c.stand_from-standing.ensures;
     }
 
 pub returns : goal.returns
