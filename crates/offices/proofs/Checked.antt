@@ -6,7 +6,7 @@ use mathlib.Core.List.{List}
 use native.Mathlib.Omega.{arith}
 use lib.ListN.{length, take}
 use lib.Dec.{leb, eqb}
-use borrow.Author.Tests.{eq-eqb, ne_eqb, eqb-true, leb-true, le-leb, lt-leb}
+use borrow.Author.Tests.{eqb-true, leb-true, le-leb, lt-leb}
 use Rattle.keys.proofs.Cases.{and_left, and_right}
 use Rattle.definitions.specs.Offices.{Waiver, Holds, table_of, rows_of, rows_ascend, offices_known, is_sound_table, is_table}
 use Rattle.laws.proofs.RowPlaces.{table-length}
@@ -110,7 +110,7 @@ module _ (offices ids waived : List ℕ) (rows : ℕ) where
     one_past count e past = sym (table_is ∙ third_fails (rows_ascend t) (offices_known t) (few 0) (few 1) (too_many 1 count e past))
 
     -- all else holds: the offices decide
-    offices_decide : (a b : ℕ) → a ≡ office_times 0 (take rows offices) → b ≡ office_times 1 (take rows offices) → rows_ascend t ≡ true → a ≤ 256 → b ≤ 256
+    pub offices_decide : (a b : ℕ) → a ≡ office_times 0 (take rows offices) → b ≡ office_times 1 (take rows offices) → rows_ascend t ≡ true → a ≤ 256 → b ≤ 256
         → eqb (a + b) rows ≡ is_table offices ids waived rows
     offices_decide a b e f asc low high =
         let own = share 0 a e in
@@ -120,11 +120,3 @@ module _ (offices ids waived : List ℕ) (rows : ℕ) where
         ∙ sym (known_exactly t)
         ∙ one_decides (rows_ascend t) (offices_known t) (few 0) (few 1) asc (le-leb (length (rows_of 0 t)) 256 (omega arith)) (le-leb (length (rows_of 1 t)) 256 (omega arith))
         ∙ sym table_is
-
-    pub not_all : (a b : ℕ) → a ≡ office_times 0 (take rows offices) → b ≡ office_times 1 (take rows offices) → rows_ascend t ≡ true → a ≤ 256 → b ≤ 256
-        → (a + b ≡ rows → ⊥) → false ≡ is_table offices ids waived rows
-    not_all a b e f asc low high other = sym (ne_eqb (a + b) rows other) ∙ offices_decide a b e f asc low high
-
-    pub all_known : (a b : ℕ) → a ≡ office_times 0 (take rows offices) → b ≡ office_times 1 (take rows offices) → rows_ascend t ≡ true → a ≤ 256 → b ≤ 256
-        → a + b ≡ rows → true ≡ is_table offices ids waived rows
-    all_known a b e f asc low high all = sym (eq-eqb (a + b) rows all) ∙ offices_decide a b e f asc low high

@@ -16,7 +16,30 @@ fn has_places(offices: usize, ids: usize, waived: usize, rows: usize) -> bool
     offices == PLACES && ids == PLACES && waived == PLACES && rows <= PLACES
 }
 
-// The table of the three slices, if they hold one. Every row is one of the two offices' exactly where their shares together are all rows.
+// The three slices hold a table: 14 is given where they do not. Every row is one of the two offices' exactly where their shares together are all rows.
+pub fn is_table(offices: &[u32], ids: &[u32], waived: &[u32], rows: usize) -> bool
+    ensures { result ≡ is_table offices.now ids.now waived.now rows }
+{
+    if !has_places(offices.len(), ids.len(), waived.len(), rows) {
+        return false;
+    }
+    let table = WaiverTable::first_rows(offices, ids, waived, rows);
+    if !table.ascends() {
+        return false;
+    }
+    let zero = table.count_of(0);
+    let one = table.count_of(1);
+    if LIMIT < zero {
+        return false;
+    }
+    if LIMIT < one {
+        return false;
+    }
+    zero + one == rows
+}
+
+// The table of the three slices, if they hold one. Whether they do is asked of `is_table` alone.
+#[tactic(auto, using(crate::proofs::Checked::table_holds))]
 pub fn table<'a>(
     offices: &'a [u32],
     ids: &'a [u32],
@@ -26,30 +49,8 @@ pub fn table<'a>(
     ensures exact { is_some result ≡ is_table offices.now ids.now waived.now rows }
     ensures narrowed { IfSome result (λ t. NarrowedTo rows offices.now ids.now waived.now t.offices.now t.ids.now t.waived.now) }
 {
-    if !has_places(offices.len(), ids.len(), waived.len(), rows) {
+    if !is_table(offices, ids, waived, rows) {
         return None;
     }
-    let table = WaiverTable::first_rows(offices, ids, waived, rows);
-    if !table.ascends() {
-        return None;
-    }
-    let zero = table.count_of(0);
-    let one = table.count_of(1);
-    if LIMIT < zero {
-        return None;
-    }
-    if LIMIT < one {
-        return None;
-    }
-    if zero + one != rows {
-        return None;
-    }
-    Some(table)
-}
-
-// The three slices hold a table: 14 is given where they do not.
-pub fn is_table(offices: &[u32], ids: &[u32], waived: &[u32], rows: usize) -> bool
-    ensures { result ≡ is_table offices.now ids.now waived.now rows }
-{
-    table(offices, ids, waived, rows).is_some()
+    Some(WaiverTable::first_rows(offices, ids, waived, rows))
 }

@@ -9,13 +9,13 @@ pub returns-then-not-comes_before : goal.returns-then-not-comes_before
 returns-then-not-comes_before c =
     let s = c.args.self in
     order_fails _ _ _ (record { as_many_ids = s.as_many_ids; as_many_keys = s.as_many_keys }) _ (omega arith) c.loop-next.invariant
-    (ap₂ row_before (sym c.row.ensures) (sym c.row-in-loop-next.ensures) ∙ sym c.comes_before.ensures ∙ c.if-not-comes_before.true)
+    (ap₂ row_before (sym c.row.ensures) (sym c.row-in-loop-next.ensures) ∙ sym c.comes_before.ensures.defined ∙ c.if-not-comes_before.true)
 
 pub loop-next-preserved : goal.loop-next-preserved
 loop-next-preserved c =
     let s = c.args.self in
     order_goes_on _ _ _ (record { as_many_ids = s.as_many_ids; as_many_keys = s.as_many_keys }) _ (omega arith) c.loop-next.invariant
-    (ap₂ row_before (sym c.row.ensures) (sym c.row-in-loop-next.ensures) ∙ sym c.comes_before.ensures ∙ c.if-not-comes_before.false)
+    (ap₂ row_before (sym c.row.ensures) (sym c.row-in-loop-next.ensures) ∙ sym c.comes_before.ensures.defined ∙ c.if-not-comes_before.false)
 
 pub returns : goal.returns
 returns c =

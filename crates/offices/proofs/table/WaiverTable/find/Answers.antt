@@ -13,7 +13,7 @@ returns-then-eq c =
     let w = waiver_of c.args.row.office c.args.row.id c.args.row.key in
     sym
     (search_stops w _ _ _ (record { as_many_ids = s.as_many_ids; as_many_keys = s.as_many_keys }) _ (omega arith) c.loop-place.invariant
-    (ap (λ x. row_before x w) (sym c.row-other.ensures) ∙ sym c.comes_before.ensures ∙ c.if-not-comes_before.true)
+    (ap (λ x. row_before x w) (sym c.row-other.ensures) ∙ sym c.comes_before.ensures.defined ∙ c.if-not-comes_before.true)
     ∙ ap (λ b. cond b (Ok c.loop-place.place) (Err c.loop-place.place)) (ap (λ x. same_row x w) (sym c.row-other.ensures) ∙ sym c.eq.ensures ∙ c.if-eq.true))
 
 pub returns-else-eq : goal.returns-else-eq
@@ -22,7 +22,7 @@ returns-else-eq c =
     let w = waiver_of c.args.row.office c.args.row.id c.args.row.key in
     sym
     (search_stops w _ _ _ (record { as_many_ids = s.as_many_ids; as_many_keys = s.as_many_keys }) _ (omega arith) c.loop-place.invariant
-    (ap (λ x. row_before x w) (sym c.row-other.ensures) ∙ sym c.comes_before.ensures ∙ c.if-not-comes_before.true)
+    (ap (λ x. row_before x w) (sym c.row-other.ensures) ∙ sym c.comes_before.ensures.defined ∙ c.if-not-comes_before.true)
     ∙ ap (λ b. cond b (Ok c.loop-place.place) (Err c.loop-place.place)) (ap (λ x. same_row x w) (sym c.row-other.ensures) ∙ sym c.eq.ensures ∙ c.if-eq.false))
 
 pub loop-place-preserved : goal.loop-place-preserved
@@ -30,7 +30,7 @@ loop-place-preserved c =
     let s = c.args.self in
     let w = waiver_of c.args.row.office c.args.row.id c.args.row.key in
     search_goes_on w _ _ _ (record { as_many_ids = s.as_many_ids; as_many_keys = s.as_many_keys }) _ (omega arith) c.loop-place.invariant
-    (ap (λ x. row_before x w) (sym c.row-other.ensures) ∙ sym c.comes_before.ensures ∙ c.if-not-comes_before.false)
+    (ap (λ x. row_before x w) (sym c.row-other.ensures) ∙ sym c.comes_before.ensures.defined ∙ c.if-not-comes_before.false)
 
 pub returns : goal.returns
 returns c =
