@@ -17,11 +17,17 @@ impl WaiverRow {
         ensures defined { result ≡ row_before (waiver_of self.office self.id self.key) (waiver_of other.office other.id other.key) }
         ensures derived { result ≡ partial_lt ⟦<WaiverRow as PartialOrd>⟧.partial_cmp self other }
     {
+        if self.office < other.office {
+            return true;
+        }
         if self.office != other.office {
-            return self.office < other.office;
+            return false;
+        }
+        if self.id < other.id {
+            return true;
         }
         if self.id != other.id {
-            return self.id < other.id;
+            return false;
         }
         self < other
     }
