@@ -1,7 +1,21 @@
-// A place made and a place given up in one of the slices. C lends the three of a table one by one, with places past the rows that stay as they are, so the
+// One of the slices of a table: how many rows an office has, a place made and a place given up. C lends the three of a table one by one, with places past the rows that stay as they are, so the
 // number of rows goes beside each.
-ghost use Rattle.std.specs.Prelude.{◌≡◌, ◌≤◌, ◌<◌, length};
-ghost use Rattle.offices.specs.Place.{opened, gap_closed};
+ghost use Rattle.std.specs.Prelude.{◌≡◌, ◌≤◌, ◌<◌, length, take};
+ghost use Rattle.offices.specs.Place.{opened, gap_closed, office_times};
+
+// How many of the first rows the office has.
+pub fn count_of(offices: &[u32], rows: usize, office: u32) -> usize
+    requires { rows ≤ length offices.now }
+    ensures { result ≡ office_times office (take rows offices.now) }
+{
+    let mut count = 0;
+    for other in &offices[..rows] {
+        if *other == office {
+            count += 1;
+        }
+    }
+    count
+}
 
 // The later rows' numbers go one place on, and the new one stands at the place.
 pub fn open(slice: &mut [u32], rows: usize, place: usize, number: u32)

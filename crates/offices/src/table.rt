@@ -5,6 +5,7 @@ ghost use Rattle.offices.specs.Narrowed.{NarrowedTo};
 ghost use Rattle.offices.specs.Place.{row_found, office_times};
 
 use crate::row::WaiverRow;
+use crate::rows;
 
 #[derive(Clone, Copy)]
 pub struct WaiverTable<'a> {
@@ -80,12 +81,6 @@ impl<'a> WaiverTable<'a> {
     pub fn count_of(self, office: u32) -> usize
         ensures { result ≡ office_times office self.entry.offices.now }
     {
-        let mut count = 0;
-        for other in self.offices {
-            if *other == office {
-                count += 1;
-            }
-        }
-        count
+        rows::count_of(self.offices, self.len(), office)
     }
 }

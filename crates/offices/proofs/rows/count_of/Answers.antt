@@ -1,7 +1,7 @@
 -- The office of the place is counted, or passed.
 use Rattle.offices.proofs.Counted.{count_found, count_passed, count_ends}
-use Rattle.offices.proofs.table.WaiverTable.count_of.Goals as goal
-use Rattle.offices.proofs.table.WaiverTable.count_of.Goals.{then-other-office, else-other-office}
+use Rattle.offices.proofs.rows.count_of.Goals as goal
+use Rattle.offices.proofs.rows.count_of.Goals.{then-other-office, else-other-office}
 
 pub loop-other-preserved : goal.loop-other-preserved
 loop-other-preserved c =
