@@ -15,7 +15,8 @@ use Rattle.definitions.specs.declared.Rule.{Rule}
 use Rattle.laws.proofs.Waivers.{live_none, live_hidden, live_kept}
 use Rattle.walk.specs.Given.{written}
 use Rattle.walk.proofs.Written.{written_none, written-append}
-use Rattle.finding_runs.specs.Run.{RunNumbers, waivers_below, Progress, progress_of, counting, picture, is_unknown, gathered, rules_run}
+use Rattle.finding_runs.specs.declared.state.RunState.{RunState}
+use Rattle.finding_runs.specs.Run.{waivers_below, Progress, progress_of, counting, picture, is_unknown, gathered, rules_run}
 use Rattle.finding_runs.proofs.Fold.{run_nil, run_cons}
 use Rattle.finding_runs.proofs.StepCases.{step_gathers}
 use Rattle.finding_runs.proofs.GoodRules.{good_from, good_first, good_rest}
@@ -52,7 +53,7 @@ map-append f [] ys = refl
 map-append f (x ∷ xs) ys = ap (λ l. f x ∷ l) (map-append f xs ys)
 
 -- two progresses with the same numbers
-same_progress : (st : RunNumbers) {next next' passed passed' live live' hidden hidden' : ℕ} {ids ids' keys keys' : List ℕ}
+same_progress : (st : RunState) {next next' passed passed' live live' hidden hidden' : ℕ} {ids ids' keys keys' : List ℕ}
     → next ≡ next'
     → passed ≡ passed'
     → live ≡ live'
@@ -67,10 +68,10 @@ module _ (keys bits waiver_ids waiver_keys : List ℕ) where
   ws = waivers_of waiver_ids waiver_keys
 
   -- the live findings of the rules, and how many are hidden
-  abbrev live_all : RunNumbers → List Rule → List Finding
+  abbrev live_all : RunState → List Rule → List Finding
   live_all st rules = live_of st.m ws (all_findings st.m (picture keys bits waiver_ids waiver_keys st) rules)
 
-  abbrev hidden_all : RunNumbers → List Rule → ℕ
+  abbrev hidden_all : RunState → List Rule → ℕ
   hidden_all st rules = hidden_count st.m ws (all_findings st.m (picture keys bits waiver_ids waiver_keys st) rules)
 
   abbrev pub all_gathered : List Rule → Progress → Progress
@@ -97,7 +98,7 @@ module _ (keys bits waiver_ids waiver_keys : List ℕ) where
 
   -- one rule, and then the others
   module _ (rule : Rule) (rules : List Rule) (p : Progress) where
-    abbrev st : RunNumbers
+    abbrev st : RunState
     st = p.state
 
     abbrev found : List Finding

@@ -11,16 +11,18 @@ use Rattle.definitions.specs.Rules.{waivers_of}
 use Rattle.definitions.specs.Calls.Findings.{findings, findings_ids, findings_keys}
 use Rattle.definitions.specs.declared.Rule.{Rule}
 use Rattle.definitions.specs.declared.Found.{Found}
-use Rattle.finding_runs.specs.Run.{RunNumbers, OfficeRows, Progress, progress_of, bounding, restarting, own_part, RulesFine, RulesReady, TableReady, rules_run, table_run, begin_of, own_at, after_run, answer_of}
+use Rattle.finding_runs.specs.declared.state.RunState.{RunState}
+use Rattle.finding_runs.specs.Run.{OfficeRows, Progress, progress_of, bounding, restarting, own_part, RulesFine, RulesReady, TableReady, rules_run, table_run, begin_of, own_at, after_run, answer_of, OfFindings}
 use Rattle.finding_runs.proofs.NextCases.{next_stopped, next_faulty, next_left, next_counts, next_rests, next_full, next_writes}
 use Rattle.finding_runs.proofs.Beginning.{below_zero, begin_ready}
 use Rattle.finding_runs.proofs.TableRuns.{SameTable, same_on, next_same, ready_same, table_ready_run, table_run_same, table_run_from}
+use Rattle.finding_runs.proofs.OfFindings.{of_findings}
 use Rattle.finding_runs.proofs.OfficeAnswer.{own_at_within, own_at_fits, office_answers}
 use Rattle.finding_runs.proofs.ThreeRuns.{after, three_runs}
 
 module _ (keys bits waiver_ids waiver_keys : List ℕ) where
   -- where a run ended, one that goes through the rules again may begin
-  fine_restarted : (limit : ℕ) (st : RunNumbers) (l l' : List ℕ) → RulesFine keys bits waiver_ids waiver_keys (progress_of st l l') → st.faulty ≡ false → limit ≤ st.room
+  fine_restarted : (limit : ℕ) (st : RunState) (l l' : List ℕ) → RulesFine keys bits waiver_ids waiver_keys (progress_of st l l') → st.faulty ≡ false → limit ≤ st.room
       → RulesFine keys bits waiver_ids waiver_keys (progress_of (restarting limit st) l l')
   fine_restarted limit st l l' f sound low =
       record {
@@ -38,7 +40,7 @@ module _ (keys bits waiver_ids waiver_keys : List ℕ) where
       }
 
   -- so the next run may begin, whichever it is
-  ready_next : (st : RunNumbers) (l l' : List ℕ) → RulesReady keys bits waiver_ids waiver_keys (progress_of st l l') → RulesReady keys bits waiver_ids waiver_keys (progress_of (after_run st) l l')
+  ready_next : (st : RunState) (l l' : List ℕ) → RulesReady keys bits waiver_ids waiver_keys (progress_of st l l') → RulesReady keys bits waiver_ids waiver_keys (progress_of (after_run st) l l')
   ready_next st l l' h =
       equal st.refusal 0
       (λ running.
@@ -74,7 +76,7 @@ module _ (keys bits waiver_ids waiver_keys : List ℕ) where
       (λ stopped. rw (next_stopped st stopped) h)
 
 module _ (keys bits ids waived : List ℕ) where
-  pub next_ready : (rules : List Rule) (p : Progress) (r r' : RunNumbers) (l l' : List ℕ) → TableReady keys bits ids waived p
+  pub next_ready : (rules : List Rule) (p : Progress) (r r' : RunState) (l l' : List ℕ) → TableReady keys bits ids waived p
       → progress_of r l l' ≡ table_run keys bits ids waived rules p
       → r' ≡ after_run r
       → TableReady keys bits ids waived (progress_of r' l l')
@@ -87,11 +89,11 @@ module _ (m s : ℕ) (keys bits : List ℕ) (n office : ℕ) (rules : List Rule)
   abbrev own : OfficeRows
   own = own_at m s keys bits n office offices ids waived rows
 
-  abbrev start : RunNumbers
+  abbrev start : RunState
   start = bounding 0 (begin_of m s keys bits n office own (length found_ids) (length found_keys))
 
   -- the first run may begin
-  pub checking_ready : (r₀ : RunNumbers) → r₀ ≡ start → TableReady keys bits ids waived (progress_of r₀ found_ids found_keys)
+  pub checking_ready : (r₀ : RunState) → r₀ ≡ start → TableReady keys bits ids waived (progress_of r₀ found_ids found_keys)
   unfolding begin_of
   checking_ready r₀ e =
       let within = own_at_within m s keys bits n office offices ids waived rows in
@@ -110,7 +112,7 @@ module _ (m s : ℕ) (keys bits : List ℕ) (n office : ℕ) (rules : List Rule)
   run_own = rules_run keys bits (own_part start ids) (own_part start waived) rules
 
   -- the states and the answer slices along the call: what begins, what the first run leaves, what begins after it, and so on to the answer
-  pub record Course (r₀ r₁ r₂ r₃ r₄ r₅ : RunNumbers) (l₁ l₁' l₃ l₃' l₅ l₅' : List ℕ) (f : Found) : Type 0 where
+  pub record Course (r₀ r₁ r₂ r₃ r₄ r₅ : RunState) (l₁ l₁' l₃ l₃' l₅ l₅' : List ℕ) (f : Found) : Type 0 where
     pub begins : r₀ ≡ start
     pub checks : progress_of r₁ l₁ l₁' ≡ run (progress_of r₀ found_ids found_keys)
     pub next : r₂ ≡ after_run r₁
@@ -124,7 +126,7 @@ module _ (m s : ℕ) (keys bits : List ℕ) (n office : ℕ) (rules : List Rule)
   runs_own p same = table_run_from keys bits ids waived rules p same
 
   -- the call gives and leaves what the specification says
-  pub findings_law : {r₀ r₁ r₂ r₃ r₄ r₅ : RunNumbers} {l₁ l₁' l₃ l₃' l₅ l₅' : List ℕ} {f : Found} → Course r₀ r₁ r₂ r₃ r₄ r₅ l₁ l₁' l₃ l₃' l₅ l₅' f
+  pub findings_law : {r₀ r₁ r₂ r₃ r₄ r₅ : RunState} {l₁ l₁' l₃ l₃' l₅ l₅' : List ℕ} {f : Found} → Course r₀ r₁ r₂ r₃ r₄ r₅ l₁ l₁' l₃ l₃' l₅ l₅' f
       → (f ≡ findings m s keys bits n office rules offices ids waived rows found_ids found_keys)
       × (l₅ ≡ findings_ids m s keys bits n office rules offices ids waived rows found_ids found_keys)
       × (l₅' ≡ findings_keys m s keys bits n office rules offices ids waived rows found_ids found_keys)
@@ -145,3 +147,7 @@ module _ (m s : ℕ) (keys bits : List ℕ) (n office : ℕ) (rules : List Rule)
         ap (λ p. p.ids) third ∙ promised.wrote_ids ∙ is.1,
         ap (λ p. p.keys) third ∙ promised.wrote_keys ∙ is.2,
       )
+
+  -- so it has one of the findings' numbers
+  pub answer_of_findings : {r₀ r₁ r₂ r₃ r₄ r₅ : RunState} {l₁ l₁' l₃ l₃' l₅ l₅' : List ℕ} {f : Found} → Course r₀ r₁ r₂ r₃ r₄ r₅ l₁ l₁' l₃ l₃' l₅ l₅' f → OfFindings f
+  answer_of_findings c = subst OfFindings (sym (findings_law c).0) (of_findings m s keys bits n office _ rules _ found_ids found_keys)

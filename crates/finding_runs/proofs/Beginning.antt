@@ -16,7 +16,8 @@ use Rattle.definitions.specs.Offices.{bad_office}
 use Rattle.definitions.specs.Rules.{Finding, waivers_of}
 use Rattle.list.specs.First.{first_refusal}
 use Rattle.list.proofs.FirstRefusal.{first_settings, first_no_list, first_good}
-use Rattle.finding_runs.specs.Run.{rows_told, RunNumbers, OfficeRows, no_rows, own_told, waivers_good, waivers_below, progress_of, bounding, begin_refusal, begin_of, own_at, RulesReady}
+use Rattle.finding_runs.specs.declared.state.RunState.{RunState}
+use Rattle.finding_runs.specs.Run.{rows_told, OfficeRows, no_rows, own_told, waivers_good, waivers_below, progress_of, bounding, begin_refusal, begin_of, own_at, RulesReady}
 use Rattle.finding_runs.proofs.Settings.{good_level, good_slots}
 
 -- no waiver has an id below 0
@@ -88,7 +89,7 @@ module _ (office m s : ℕ) (keys bits : List ℕ) (n : ℕ) where
   own_passed offices ids waived rows h = sym (ap (λ b. cond b (own_told m office offices ids waived rows) (no_rows true)) (ne_eqb (begin_refusal office m s keys bits n) 0 h))
 
   module _ (own : OfficeRows) (room_ids room_keys : ℕ) where
-    abbrev start : RunNumbers
+    abbrev start : RunState
     start = begin_of m s keys bits n office own room_ids room_keys
 
     -- field by field

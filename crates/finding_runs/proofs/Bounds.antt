@@ -13,7 +13,8 @@ use Rattle.definitions.specs.Rules.{finding_of, window_of_rule, findings_of, wai
 use Rattle.definitions.specs.declared.Rule.{Rule}
 use Rattle.laws.proofs.Waivers.{live_and_hidden}
 use Rattle.walk.proofs.Few.{select_few}
-use Rattle.finding_runs.specs.Run.{RunNumbers, Progress, progress_of, refusing, faulty_from, bounding, restarting, pixels_of, may_come, picture, findings_at, gathered, rule_step, rules_run}
+use Rattle.finding_runs.specs.declared.state.RunState.{RunState}
+use Rattle.finding_runs.specs.Run.{Progress, progress_of, refusing, faulty_from, bounding, restarting, pixels_of, may_come, picture, findings_at, gathered, rule_step, rules_run}
 use Rattle.finding_runs.proofs.Fold.{run_nil, run_cons}
 use Rattle.finding_runs.proofs.StepCases.{is_faulty, step_stopped, step_bad, step_faulty, step_good, step_gathers, served_bounds, walks_on}
 
@@ -33,7 +34,7 @@ module _ (keys bits waiver_ids waiver_keys : List ℕ) where
   step = rule_step keys bits waiver_ids waiver_keys
 
   -- of a run that counts, from p to q, beside one that bounds and ends with the state st
-  pub record Bounded (p q : Progress) (st : RunNumbers) : Type 0 where
+  pub record Bounded (p q : Progress) (st : RunState) : Type 0 where
     pub bound : ℕ
     pub same : st ≡ bounding bound q.state
     pub enough : q.state.live ≤ bound
@@ -50,7 +51,7 @@ module _ (keys bits waiver_ids waiver_keys : List ℕ) where
     not_full : (p.state.refusal ≡ 12 → ⊥) → q.state.refusal ≡ 12 → ⊥
 
   -- the live findings of one rule are not more than the window's pixels
-  few_live : (rule : Rule) (st : RunNumbers) → length (live_of st.m (waivers_of waiver_ids waiver_keys) (findings_at keys bits waiver_ids waiver_keys rule st)) ≤ pixels_of rule
+  few_live : (rule : Rule) (st : RunState) → length (live_of st.m (waivers_of waiver_ids waiver_keys) (findings_at keys bits waiver_ids waiver_keys rule st)) ≤ pixels_of rule
   few_live rule st =
       let found = findings_at keys bits waiver_ids waiver_keys rule st in
       let few = findings_bounded st.m (picture keys bits waiver_ids waiver_keys st) rule in

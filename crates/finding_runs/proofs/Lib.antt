@@ -23,6 +23,7 @@ pub mod NextCases
 pub mod AllGathered
 pub mod RunEnds
 pub mod Refusals
+pub mod OfFindings
 -- the runs together give the findings of specification S13
 pub mod TwoRuns
 pub mod Bounds
@@ -31,4 +32,3 @@ pub mod OfficeAnswer
 pub mod Answer
 -- the loop over the lent rules
 pub mod RunTurns
-pub mod Told

@@ -4,7 +4,8 @@ use mathlib.Core.Path.{◌≡◌}
 use mathlib.Core.Bool.{Bool, true, false, cond, ◌||◌}
 use lib.Dec.{eqb, ltb}
 use borrow.Author.Tests.{eq-eqb, ne_eqb, lt-ltb, le-ltb}
-use Rattle.finding_runs.specs.Run.{RunNumbers, refusing, resting, restarting, after_run, answer_of}
+use Rattle.finding_runs.specs.declared.state.RunState.{RunState}
+use Rattle.finding_runs.specs.Run.{refusing, resting, restarting, after_run, answer_of}
 
 module _ {A : Type 0} (first second third fourth fifth : Bool) (stopped faulty counts rests full writes : A) where
   abbrev chain : A
@@ -22,7 +23,7 @@ module _ {A : Type 0} (first second third fourth fifth : Bool) (stopped faulty c
   chain_right : first ≡ true → second ≡ false → third ≡ false → chain ≡ cond fourth (cond fifth counts rests) (cond fifth full writes)
   chain_right e f g = rw (e, f, g)
 
-module _ (st : RunNumbers) where
+module _ (st : RunState) where
   abbrev running : Bool
   running = eqb st.refusal 0
 
@@ -35,7 +36,7 @@ module _ (st : RunNumbers) where
   abbrev past : Bool
   past = ltb st.room st.live
 
-  abbrev writing : RunNumbers
+  abbrev writing : RunState
   writing = restarting st.room st
 
   pub next_stopped : (st.refusal ≡ 0 → ⊥) → after_run st ≡ st

@@ -20,7 +20,8 @@ use Rattle.list.proofs.Own.{own_list}
 use Rattle.walk.specs.Given.{written}
 use Rattle.finding.specs.declared.Sifting.{Sifting}
 use Rattle.finding.specs.Sift.{not_waived, SiftReady, Sifted}
-use Rattle.finding_runs.specs.Run.{RunNumbers, Progress, progress_of, waivers_below, counting, picture, findings_at, gathered, served}
+use Rattle.finding_runs.specs.declared.state.RunState.{RunState}
+use Rattle.finding_runs.specs.Run.{Progress, progress_of, waivers_below, counting, picture, findings_at, gathered, served}
 use Rattle.finding_runs.specs.Step.{OwnEnd, Gatherable, widened}
 use Rattle.finding.proofs.Settling.{none_passed}
 use Rattle.finding_runs.proofs.GoodWaivers.{good_in_order}
@@ -43,7 +44,7 @@ module _ (keys bits waiver_ids waiver_keys : List ℕ) (rule : Rule) (p : Progre
   abbrev ws : List Finding
   ws = waivers_of waiver_ids waiver_keys
 
-  abbrev st : RunNumbers
+  abbrev st : RunState
   st = p.state
 
   asc : findings_ascend ws ≡ true
@@ -111,7 +112,7 @@ module _ (keys bits waiver_ids waiver_keys : List ℕ) (rule : Rule) (p : Progre
     counts_small fits = let low = next_low keys bits waiver_ids waiver_keys rule p g.may in omega (arith, g.fine.small)
 
     -- where the run only bounds
-    pub widened_served : st.mode ≡ 0 → {r : Sifting} {after : RunNumbers} → r ≡ widened rule at → after ≡ counting (rule.id + 1) end r.live r.hidden st
+    pub widened_served : st.mode ≡ 0 → {r : Sifting} {after : RunState} → r ≡ widened rule at → after ≡ counting (rule.id + 1) end r.live r.hidden st
         → progress_of after p.ids p.keys ≡ served keys bits waiver_ids waiver_keys rule p
     widened_served bounds {r} e f =
         ap (λ a. progress_of a p.ids p.keys) f
@@ -159,7 +160,7 @@ module _ (keys bits waiver_ids waiver_keys : List ℕ) (rule : Rule) (p : Progre
           s.counted.wrote_keys
           ∙ ap (written st.limit p.keys st.live) (keys_of rule.id live ∙ ap (map (λ x. x.key)) live_is)
 
-      sifted_gathered : {after : RunNumbers} → after ≡ counting (rule.id + 1) end r.live r.hidden st
+      sifted_gathered : {after : RunState} → after ≡ counting (rule.id + 1) end r.live r.hidden st
           → progress_of after ids' keys' ≡ gathered keys bits waiver_ids waiver_keys rule p
       sifted_gathered e =
           ap (λ a. progress_of a ids' keys') e
@@ -168,7 +169,7 @@ module _ (keys bits waiver_ids waiver_keys : List ℕ) (rule : Rule) (p : Progre
           ∙ ap₂ (λ a b. progress_of (gathered keys bits waiver_ids waiver_keys rule p).state a b) wrote-ids wrote-keys
 
       -- where it walks
-      pub sifted_served : (st.mode ≡ 0 → ⊥) → {after : RunNumbers} → after ≡ counting (rule.id + 1) end r.live r.hidden st
+      pub sifted_served : (st.mode ≡ 0 → ⊥) → {after : RunState} → after ≡ counting (rule.id + 1) end r.live r.hidden st
           → progress_of after ids' keys' ≡ served keys bits waiver_ids waiver_keys rule p
       sifted_served walks e = sifted_gathered e ∙ sym (served_gathers keys bits waiver_ids waiver_keys rule p walks)
 

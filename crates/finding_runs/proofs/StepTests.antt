@@ -11,7 +11,8 @@ use Rattle.keys.proofs.Cases.{split}
 use Rattle.definitions.specs.Window.{is_window}
 use Rattle.definitions.specs.Rules.{window_of_rule, is_rule}
 use Rattle.definitions.specs.declared.Rule.{Rule}
-use Rattle.finding_runs.specs.Run.{RunNumbers, may_come}
+use Rattle.finding_runs.specs.declared.state.RunState.{RunState}
+use Rattle.finding_runs.specs.Run.{may_come}
 use Rattle.finding_runs.specs.Step.{OwnFrom, OwnEnd}
 
 -- three tests, in the order of the code
@@ -27,7 +28,7 @@ others_hold : (a b c : Bool) → a ≡ true → c ≡ true → b ≡ a && (b && 
 others_hold a true c e f = rw (e, f)
 others_hold a false c e f = rw e
 
-module _ (rule : Rule) (st : RunNumbers) where
+module _ (rule : Rule) (st : RunState) where
   pub may_feature : st.s ≤ rule.feature → false ≡ may_come rule st
   unfolding is_rule
   may_feature h = last_fails (leb st.next rule.id) (is_window st.m (window_of_rule rule)) _ (le-ltb _ _ h)

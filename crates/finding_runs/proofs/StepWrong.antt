@@ -7,7 +7,8 @@ use lib.ListN.{get_or}
 use lib.Dec.{ltb}
 use Rattle.definitions.specs.Rules.{waivers_of}
 use Rattle.definitions.specs.declared.Rule.{Rule}
-use Rattle.finding_runs.specs.Run.{RunNumbers, Progress, waivers_below, may_come, is_unknown, RulesFine}
+use Rattle.finding_runs.specs.declared.state.RunState.{RunState}
+use Rattle.finding_runs.specs.Run.{Progress, waivers_below, may_come, is_unknown, RulesFine}
 use Rattle.finding_runs.specs.Step.{Gatherable}
 use Rattle.finding_runs.proofs.GoodWaivers.{good_in_order}
 use Rattle.finding_runs.proofs.StepCases.{is_faulty}
@@ -26,7 +27,7 @@ neither_right true b e = absurd (true≢false e)
 neither_right false b e = e
 
 module _ (keys bits waiver_ids waiver_keys : List ℕ) (rule : Rule) (p : Progress) (f : RulesFine keys bits waiver_ids waiver_keys p) where
-  abbrev st : RunNumbers
+  abbrev st : RunState
   st = p.state
 
   abbrev unknown : Bool

@@ -7,22 +7,23 @@ use native.Mathlib.Omega.{arith}
 use lib.ListN.{take, drop}
 use Rattle.keys.proofs.Cases.{decide, split, equal}
 use Rattle.definitions.specs.declared.Rule.{Rule}
-use Rattle.finding_runs.specs.Run.{RunNumbers, Progress, may_come, own_part, rule_step, rules_run, table_step, table_run, RulesReady, TableReady, after_run}
+use Rattle.finding_runs.specs.declared.state.RunState.{RunState}
+use Rattle.finding_runs.specs.Run.{Progress, may_come, own_part, rule_step, rules_run, table_step, table_run, RulesReady, TableReady, after_run}
 use Rattle.finding_runs.proofs.Fold.{run_nil, run_cons}
 use Rattle.finding_runs.proofs.StepCases.{is_faulty, step_stopped, step_rests, step_bad, step_faulty, step_good, served_bounds, served_gathers}
 use Rattle.finding_runs.proofs.NextCases.{next_stopped, next_faulty, next_left, next_counts, next_rests, next_full, next_writes}
 use Rattle.finding_runs.proofs.Ready.{ready_step, ready_run}
 
 -- the rows stand where they stood
-pub record SameTable (a b : RunNumbers) : Type 0 where
+pub record SameTable (a b : RunState) : Type 0 where
   pub offset : b.offset ≡ a.offset
   pub count : b.waivers ≡ a.waivers
 
 -- so the parts are the same
-same_part : {a b : RunNumbers} → SameTable a b → (l : List ℕ) → own_part b l ≡ own_part a l
+same_part : {a b : RunState} → SameTable a b → (l : List ℕ) → own_part b l ≡ own_part a l
 same_part e l = ap₂ (λ n i. take n (drop i l)) e.count e.offset
 
-pub same_on : {a b c : RunNumbers} → SameTable a b → SameTable b c → SameTable a c
+pub same_on : {a b c : RunState} → SameTable a b → SameTable b c → SameTable a c
 same_on e f = record { offset = f.offset ∙ e.offset; count = f.count ∙ e.count }
 
 module _ (keys bits waiver_ids waiver_keys : List ℕ) where
@@ -53,7 +54,7 @@ module _ (keys bits waiver_ids waiver_keys : List ℕ) where
       (same_on (step_same rule p) (run_same rules (rule_step keys bits waiver_ids waiver_keys rule p)))
 
 -- the next run has the same rows
-pub next_same : (st : RunNumbers) → SameTable st (after_run st)
+pub next_same : (st : RunState) → SameTable st (after_run st)
 next_same st =
     equal st.refusal 0
     (λ running.
@@ -73,7 +74,7 @@ next_same st =
     (λ stopped. rw (next_stopped st stopped) (record { offset = refl; count = refl }))
 
 module _ (keys bits ids waived : List ℕ) where
-  abbrev part : RunNumbers → List ℕ → List ℕ → Type 0
+  abbrev part : RunState → List ℕ → List ℕ → Type 0
   part st a b = (own_part st ids ≡ a) × (own_part st waived ≡ b)
 
   -- a run over the table is one over the office's rows
@@ -91,7 +92,7 @@ module _ (keys bits ids waived : List ℕ) where
   table_run_is rules p = run_is rules p (own_part p.state ids) (own_part p.state waived) (refl, refl)
 
   -- from a state with the same rows
-  pub table_run_from : {st : RunNumbers} (rules : List Rule) (p : Progress) → SameTable st p.state → table_run keys bits ids waived rules p ≡ rules_run keys bits (own_part st ids) (own_part st waived) rules p
+  pub table_run_from : {st : RunState} (rules : List Rule) (p : Progress) → SameTable st p.state → table_run keys bits ids waived rules p ≡ rules_run keys bits (own_part st ids) (own_part st waived) rules p
   table_run_from {st} rules p same = run_is rules p (own_part st ids) (own_part st waived) (same_part same ids, same_part same waived)
 
   pub table_run_same : (rules : List Rule) (p : Progress) → SameTable p.state (table_run keys bits ids waived rules p).state
@@ -124,10 +125,10 @@ module _ (keys bits ids waived : List ℕ) where
       ready_same p (table_run keys bits ids waived rules p) (table_run_same rules p) h (rw (table_run_is rules p) (ready_run keys bits a b rules p h.own))
 
   -- the part as a step cuts it out, from its first place to its end
-  abbrev pub between : RunNumbers → List ℕ → List ℕ
+  abbrev pub between : RunState → List ℕ → List ℕ
   between st l = take (st.offset + st.waivers - st.offset) (drop st.offset l)
 
-  between_is : (st : RunNumbers) (l : List ℕ) → between st l ≡ own_part st l
+  between_is : (st : RunState) (l : List ℕ) → between st l ≡ own_part st l
   between_is st l = let e : st.offset + st.waivers - st.offset ≡ st.waivers = omega arith in ap (λ n. take n (drop st.offset l)) e
 
   pub step_cut : (rule : Rule) (p : Progress) → rule_step keys bits (between p.state ids) (between p.state waived) rule p ≡ table_step keys bits ids waived rule p

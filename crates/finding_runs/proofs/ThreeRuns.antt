@@ -9,7 +9,8 @@ use native.Mathlib.Omega.{arith}
 use lib.ListN.{length}
 use Rattle.keys.proofs.Cases.{decide, split, equal}
 use Rattle.definitions.specs.declared.Rule.{Rule}
-use Rattle.finding_runs.specs.Run.{RunNumbers, OfficeRows, Progress, progress_of, refusing, bounding, resting, restarting, rules_run, begin_of, after_run, answer_of}
+use Rattle.finding_runs.specs.declared.state.RunState.{RunState}
+use Rattle.finding_runs.specs.Run.{OfficeRows, Progress, progress_of, refusing, bounding, resting, restarting, rules_run, begin_of, after_run, answer_of}
 use Rattle.finding_runs.proofs.NextCases.{next_stopped, next_faulty, next_left, next_counts, next_rests, next_writes, answer_refused}
 use Rattle.finding_runs.proofs.Beginning.{RunFits, begin_not_full}
 use Rattle.finding_runs.proofs.Quiet.{run_stopped, run_rests, quiet_ids, quiet_keys}
@@ -20,7 +21,7 @@ module _ (m s : ℕ) (keys bits : List ℕ) (n office : ℕ) (own : OfficeRows) 
   abbrev run : Progress → Progress
   run = rules_run keys bits waiver_ids waiver_keys rules
 
-  abbrev start : RunNumbers
+  abbrev start : RunState
   start = begin_of m s keys bits n office own (length ids) (length found_keys)
 
   -- the run after a run
@@ -34,7 +35,7 @@ module _ (m s : ℕ) (keys bits : List ℕ) (n office : ℕ) (own : OfficeRows) 
   abbrev Keeps : Progress → Type 0
   Keeps = Promised m s keys bits n office own rules waiver_ids waiver_keys ids found_keys
 
-  abbrev last : RunNumbers
+  abbrev last : RunState
   last = (counted m s keys bits n office own rules waiver_ids waiver_keys ids found_keys).state
 
   bounds : Bounded keys bits waiver_ids waiver_keys (progress_of start ids found_keys) (run (progress_of start ids found_keys)) checked.state
@@ -46,7 +47,7 @@ module _ (m s : ℕ) (keys bits : List ℕ) (n office : ℕ) (own : OfficeRows) 
   start_not_full = begin_not_full office m s keys bits n
 
   -- the state after the run that checks is that after a counting run, but for the counts
-  abbrev told : RunNumbers
+  abbrev told : RunState
   told = bounding bounds.bound last
 
   checked_is : checked ≡ progress_of told ids found_keys
@@ -64,8 +65,8 @@ module _ (m s : ℕ) (keys bits : List ℕ) (n office : ℕ) (own : OfficeRows) 
 
   module _ (fit : RunFits m own waiver_ids waiver_keys) where
     -- the state st, with nothing written, comes after the first run, and another with the same refusal after the counting run: both runs stop
-    module _ (c : ℕ) (not-zero : c ≡ 0 → ⊥) (not_full : c ≡ 12 → ⊥) (st st' : RunNumbers) (e : after_run told ≡ st) (e' : after_run last ≡ st') (is : st.refusal ≡ c) (is' : st'.refusal ≡ c) where
-      stay : (x : RunNumbers) → x.refusal ≡ c → run (progress_of x ids found_keys) ≡ progress_of x ids found_keys
+    module _ (c : ℕ) (not-zero : c ≡ 0 → ⊥) (not_full : c ≡ 12 → ⊥) (st st' : RunState) (e : after_run told ≡ st) (e' : after_run last ≡ st') (is : st.refusal ≡ c) (is' : st'.refusal ≡ c) where
+      stay : (x : RunState) → x.refusal ≡ c → run (progress_of x ids found_keys) ≡ progress_of x ids found_keys
       stay x h = run_stopped keys bits waiver_ids waiver_keys rules (progress_of x ids found_keys) (λ z. not-zero (sym h ∙ z))
 
       both_stop : Keeps third
@@ -76,7 +77,7 @@ module _ (m s : ℕ) (keys bits : List ℕ) (n office : ℕ) (own : OfficeRows) 
           let there : run (second m s keys bits n office own rules waiver_ids waiver_keys ids found_keys) ≡ progress_of st' ids found_keys =
           ap (λ p. run (after p)) counted_is ∙ ap (λ x. run (progress_of x ids found_keys)) e' ∙ stay st' is' in
           let two = subst Keeps there (two_runs m s keys bits n office own rules waiver_ids waiver_keys ids found_keys fit) in
-          let answers : (x : RunNumbers) → x.refusal ≡ c → answer_of x ≡ record { refusal = c; live = 0; hidden = 0 } =
+          let answers : (x : RunState) → x.refusal ≡ c → answer_of x ≡ record { refusal = c; live = 0; hidden = 0 } =
           λ x h. answer_refused x (λ z. not-zero (sym h ∙ z)) (λ z. not_full (sym h ∙ z)) ∙ ap (λ k. record { refusal = k; live = 0; hidden = 0 }) h in
           subst Keeps (sym here) (record { answered = answers st is ∙ sym (answers st' is') ∙ two.answered; wrote_ids = two.wrote_ids; wrote_keys = two.wrote_keys })
 
@@ -122,7 +123,7 @@ module _ (m s : ℕ) (keys bits : List ℕ) (n office : ℕ) (own : OfficeRows) 
       -- or written at once
       writes : told.live ≤ told.room → Keeps third
       writes h =
-          let idle : RunNumbers = resting told in
+          let idle : RunState = resting told in
           let passes : run (after checked) ≡ progress_of idle ids found_keys =
           ap (λ p. run (after p)) checked_is
           ∙ ap (λ x. run (progress_of x ids found_keys)) (next_rests told zero sound none refl h)

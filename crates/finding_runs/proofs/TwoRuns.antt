@@ -17,7 +17,8 @@ use Rattle.definitions.specs.Calls.Findings.{live_in, hidden_in, refusal_with, f
 use Rattle.definitions.specs.declared.Rule.{Rule}
 use Rattle.walk.specs.Given.{written}
 use Rattle.walk.proofs.Written.{written_over}
-use Rattle.finding_runs.specs.Run.{RunNumbers, OfficeRows, waivers_below, waivers_good, Progress, progress_of, restarting, rules_run, begin_refusal, begin_of, after_run, answer_of}
+use Rattle.finding_runs.specs.declared.state.RunState.{RunState}
+use Rattle.finding_runs.specs.Run.{OfficeRows, waivers_below, waivers_good, Progress, progress_of, restarting, rules_run, begin_refusal, begin_of, after_run, answer_of}
 use Rattle.finding_runs.proofs.WaiverPlaces.{waivers-length}
 use Rattle.finding_runs.proofs.NextCases.{next_stopped, next_faulty, next_left, next_full, next_writes, answer_done, answer_full, answer_refused}
 use Rattle.finding_runs.proofs.Beginning.{RunFits, begin_other, begin_bad, begin_no_list, begin_good, below_zero}
@@ -41,7 +42,7 @@ module _ (m s : ℕ) (keys bits : List ℕ) (n office : ℕ) (own : OfficeRows) 
   abbrev refusal : ℕ
   refusal = refusal_with m s keys bits n office (not own.good) rules (waivers_of waiver_ids waiver_keys) ids found_keys
 
-  abbrev start : RunNumbers
+  abbrev start : RunState
   start = begin_of m s keys bits n office own (length ids) (length found_keys)
 
   abbrev begun : Progress
@@ -139,7 +140,7 @@ module _ (m s : ℕ) (keys bits : List ℕ) (n office : ℕ) (own : OfficeRows) 
             good
             known
 
-        abbrev last : RunNumbers
+        abbrev last : RunState
         last = counted.state
 
         zero_last : last.refusal ≡ 0

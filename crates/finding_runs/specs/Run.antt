@@ -12,10 +12,6 @@ use Rattle.list.specs.First.{first_refusal}
 use Rattle.offices.specs.Own.{own_of}
 use Rattle.offices.specs.declared.own.OwnRows.{OwnRows}
 use Rattle.walk.specs.Given.{written}
-use Rattle.definitions.specs.Refused.{refusal_number}
-use Rattle.definitions.specs.declared.refusal.Refusal.{Refusal}
-use Rattle.finding_runs.specs.declared.state.Mode.{Mode}
-use Rattle.finding_runs.specs.declared.state.Mode.TheVariants.{Bounding, Walking, Resting}
 use Rattle.finding_runs.specs.declared.state.RunState.{RunState}
 
 -- how many waivers have a rule's id below x
@@ -31,51 +27,6 @@ keys_valid m (w ∷ ws) = valid_key m w.key && keys_valid m ws
 -- the waivers are in order, and their keys are valid
 unfoldable pub waivers_good : ℕ → List Finding → Bool
 waivers_good m waivers = findings_ascend waivers && keys_valid m waivers
-
--- where a run stands, in numbers: mode 0 bounds, 1 walks, 2 rests; and the refusal's number, or 0
-pub record RunNumbers : Type 0 where
-  pub m : ℕ
-  pub s : ℕ
-  pub n : ℕ
-  pub mode : ℕ
-  pub refusal : ℕ
-  pub next : ℕ
-  pub faulty : Bool
-  pub offset : ℕ
-  pub waivers : ℕ
-  pub passed : ℕ
-  pub limit : ℕ
-  pub room : ℕ
-  pub live : ℕ
-  pub hidden : ℕ
-
-abbrev pub mode_number : Mode → ℕ
-mode_number Bounding = 0
-mode_number Walking = 1
-mode_number Resting = 2
-
-abbrev pub number_or_zero : Option Refusal → ℕ
-number_or_zero None = 0
-number_or_zero (Some refusal) = refusal_number refusal
-
-abbrev pub numbers_told : RunState → RunNumbers
-numbers_told st =
-    record {
-      m = st.m;
-      s = st.s;
-      n = st.n;
-      mode = mode_number st.mode;
-      refusal = number_or_zero st.refusal;
-      next = st.next;
-      faulty = st.faulty;
-      offset = st.offset;
-      waivers = st.waivers;
-      passed = st.passed;
-      limit = st.limit;
-      room = st.room;
-      live = st.live;
-      hidden = st.hidden;
-    }
 
 -- the asking office's rows: whether the table is good, its keys included; then where they begin, and how many they are
 pub record OfficeRows : Type 0 where
@@ -96,18 +47,15 @@ own_told m office offices ids waived rows = rows_told (own_of m office offices i
 
 -- the state, and what the two answer slices hold
 pub record Progress : Type 0 where
-  pub state : RunNumbers
+  pub state : RunState
   pub ids : List ℕ
   pub keys : List ℕ
 
-abbrev pub progress_told : RunState → List ℕ → List ℕ → Progress
-progress_told state ids keys = record { state = numbers_told state; ids = ids; keys = keys }
-
-abbrev pub progress_of : RunNumbers → List ℕ → List ℕ → Progress
+abbrev pub progress_of : RunState → List ℕ → List ℕ → Progress
 progress_of state ids keys = record { state = state; ids = ids; keys = keys }
 
 -- the same run, of which only what moves is told: settings, records, rows and room stay
-abbrev pub moved : (st : RunNumbers) (mode refusal next : ℕ) (faulty : Bool) (passed limit live hidden : ℕ) → RunNumbers
+abbrev pub moved : (st : RunState) (mode refusal next : ℕ) (faulty : Bool) (passed limit live hidden : ℕ) → RunState
 moved st mode refusal next faulty passed limit live hidden =
     record {
       m = st.m;
@@ -127,31 +75,31 @@ moved st mode refusal next faulty passed limit live hidden =
     }
 
 -- the run is refused with the number
-abbrev pub refusing : (number : ℕ) (st : RunNumbers) → RunNumbers
+abbrev pub refusing : (number : ℕ) (st : RunState) → RunState
 refusing number st = moved st st.mode number st.next st.faulty st.passed st.limit st.live st.hidden
 
 -- a waiver is wrong: from here on only the rules are looked at
-abbrev pub faulty_from : (next : ℕ) (st : RunNumbers) → RunNumbers
+abbrev pub faulty_from : (next : ℕ) (st : RunState) → RunState
 faulty_from next st = moved st st.mode st.refusal next true st.passed st.limit st.live st.hidden
 
 -- the rule's findings are counted
-abbrev pub counting : (next passed live hidden : ℕ) (st : RunNumbers) → RunNumbers
+abbrev pub counting : (next passed live hidden : ℕ) (st : RunState) → RunState
 counting next passed live hidden st = moved st st.mode st.refusal next st.faulty passed st.limit live hidden
 
 -- the same run, which only bounds the number of findings, by the number so far
-abbrev pub bounding : (live : ℕ) (st : RunNumbers) → RunNumbers
+abbrev pub bounding : (live : ℕ) (st : RunState) → RunState
 bounding live st = moved st 0 st.refusal st.next st.faulty st.passed st.limit live 0
 
 -- a run that passes over all rules
-abbrev pub resting : (st : RunNumbers) → RunNumbers
+abbrev pub resting : (st : RunState) → RunState
 resting st = moved st 2 st.refusal st.next st.faulty st.passed st.limit st.live st.hidden
 
 -- a run that goes through the rules from the first, and writes up to the limit
-abbrev pub restarting : (limit : ℕ) (st : RunNumbers) → RunNumbers
+abbrev pub restarting : (limit : ℕ) (st : RunState) → RunState
 restarting limit st = moved st 1 0 0 false 0 limit 0 0
 
 -- the rule has the least id that may come, or a larger one, and is good
-abbrev pub may_come : Rule → RunNumbers → Bool
+abbrev pub may_come : Rule → RunState → Bool
 may_come rule st = leb st.next rule.id && is_rule st.m st.s rule
 
 -- how many pixels the rule's window has
@@ -162,14 +110,14 @@ module _ (keys bits waiver_ids waiver_keys : List ℕ) where
   abbrev waivers : List Finding
   waivers = waivers_of waiver_ids waiver_keys
 
-  abbrev pub picture : RunNumbers → Picture
+  abbrev pub picture : RunState → Picture
   picture st = picture_of st.m (records_of keys bits st.n)
 
   -- some waiver's id is past the rules before this one, and before this one's
-  abbrev pub is_unknown : Rule → RunNumbers → Bool
+  abbrev pub is_unknown : Rule → RunState → Bool
   is_unknown rule st = ltb (waivers_below st.next waivers) (waivers_below rule.id waivers)
 
-  abbrev pub findings_at : Rule → RunNumbers → List Finding
+  abbrev pub findings_at : Rule → RunState → List Finding
   findings_at rule st = findings_of st.m (picture st) rule
 
   -- the rule's findings that its waivers do not hide are counted and written, the others counted
@@ -228,7 +176,7 @@ module _ (keys bits waiver_ids waiver_keys : List ℕ) where
     pub fine : p.state.refusal ≡ 0 → RulesFine p
 
 -- the part of a slice of the table that the asking office's rows take
-abbrev pub own_part : RunNumbers → List ℕ → List ℕ
+abbrev pub own_part : RunState → List ℕ → List ℕ
 own_part st l = take st.waivers (drop st.offset l)
 
 module _ (keys bits ids waived : List ℕ) where
@@ -249,7 +197,7 @@ module _ (keys bits ids waived : List ℕ) where
 unfoldable pub begin_refusal : ℕ → ℕ → ℕ → List ℕ → List ℕ → ℕ → ℕ
 begin_refusal office m s keys bits n = cond (bad_office office) 21 (first_refusal m s keys bits n)
 
-unfoldable pub begin_of : ℕ → ℕ → List ℕ → List ℕ → ℕ → ℕ → OfficeRows → ℕ → ℕ → RunNumbers
+unfoldable pub begin_of : ℕ → ℕ → List ℕ → List ℕ → ℕ → ℕ → OfficeRows → ℕ → ℕ → RunState
 begin_of m s keys bits n office own room_ids room_keys =
     record {
       m = m;
@@ -274,7 +222,7 @@ own_at m s keys bits n office offices ids waived rows =
     cond (eqb (begin_refusal office m s keys bits n) 0) (own_told m office offices ids waived rows) (no_rows true)
 
 -- a run is over: 14 is decided, and 12 where the findings were counted; then comes the run that counts, or that writes
-unfoldable pub after_run : RunNumbers → RunNumbers
+unfoldable pub after_run : RunState → RunState
 after_run st =
     cond (eqb st.refusal 0)
     (cond (st.faulty || ltb st.passed st.waivers) (refusing 14 st)
@@ -284,10 +232,20 @@ after_run st =
     st
 
 -- what the call answers
-unfoldable pub answer_of : RunNumbers → Found
+unfoldable pub answer_of : RunState → Found
 answer_of st =
     record {
       refusal = st.refusal;
       live = cond (eqb st.refusal 0 || eqb st.refusal 12) st.live 0;
       hidden = cond (eqb st.refusal 0) st.hidden 0;
     }
+
+-- the numbers that findings answers: 0, and its six refusals
+abbrev pub is_findings_number : ℕ → Bool
+is_findings_number number = eqb number 0 || (eqb number 1 || (eqb number 4 || (eqb number 12 || (eqb number 13 || (eqb number 14 || eqb number 21)))))
+
+-- an answer of findings has one of these numbers; places are needed with 12 alone, and nothing is hidden where it is refused
+pub record OfFindings (f : Found) : Type 0 where
+  pub number : is_findings_number f.refusal ≡ true
+  pub places : (f.refusal ≡ 0 → ⊥) → (f.refusal ≡ 12 → ⊥) → f.live ≡ 0
+  pub hidden : (f.refusal ≡ 0 → ⊥) → f.hidden ≡ 0

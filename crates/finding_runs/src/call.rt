@@ -3,12 +3,32 @@
 ghost use Rattle.std.specs.Prelude.{◌≡◌};
 ghost use Rattle.definitions.specs.Answered.{as_found};
 ghost use Rattle.definitions.specs.Calls.Findings.{findings, findings_ids, findings_keys};
+ghost use Rattle.finding_runs.specs.Run.{OfFindings};
 
 use crate::all_rules::run;
 use crate::runs::{answer, begin, begin_next};
-use definitions::Rule;
 use definitions::answers::FindingCounts;
 use definitions::refusal::Refusal;
+use definitions::{Found, Rule};
+
+// The answer by the name of its refusal. Six numbers refuse the findings, so one that is none of the first five is that of the office.
+fn by_name(found: Found) -> Result<FindingCounts, Refusal>
+    requires { OfFindings found }
+    ensures { as_found result ≡ found }
+{
+    match found.refusal {
+        0 => Ok(FindingCounts {
+            live: found.live as usize,
+            hidden: found.hidden as usize,
+        }),
+        1 => Err(Refusal::Settings),
+        4 => Err(Refusal::List),
+        12 => Err(Refusal::AnswerRoom(found.live)),
+        13 => Err(Refusal::Rules),
+        14 => Err(Refusal::Waivers),
+        _ => Err(Refusal::Office),
+    }
+}
 
 pub fn give_findings(
     m: u32,
@@ -54,5 +74,5 @@ pub fn give_findings(
     let written = run(
         rules, keys, bits, ids, waived, found_ids, found_keys, writing,
     );
-    answer(written)
+    by_name(answer(written))
 }

@@ -1,7 +1,7 @@
 // One rule of a run: whether it may come, whether a waiver is wrong, and else its findings against its waivers, which stand one after the other.
 ghost use Rattle.std.specs.Prelude.{◌≡◌, ◌^◌, ◌≤◌};
 ghost use Rattle.keys.specs.Key.{deepest_side};
-ghost use Rattle.finding_runs.specs.Run.{progress_told, numbers_told, may_come, served, RulesReady, rule_step, TableReady, table_step};
+ghost use Rattle.finding_runs.specs.Run.{progress_of, may_come, served, RulesReady, rule_step, TableReady, table_step};
 ghost use Rattle.finding_runs.specs.Step.{Gatherable, widened};
 
 use crate::state::RunState;
@@ -15,7 +15,7 @@ use walk::bounds;
 // The rule's id is not below the least that may come, and the rule is good.
 fn may_come(rule: Rule, state: RunState) -> bool
     requires { state.m ≤ 10 }
-    ensures { result ≡ may_come rule (numbers_told state) }
+    ensures { result ≡ may_come rule state }
 {
     if u64::from(rule.id) < state.next {
         return false;
@@ -55,10 +55,10 @@ fn gather(
     found_keys: &mut [u32],
     state: RunState,
 ) -> RunState
-    requires { Gatherable keys.now bits.now waiver_ids.now waiver_keys.now rule (progress_told state found_ids.old found_keys.old) }
-    ensures { progress_told result found_ids.new found_keys.new
+    requires { Gatherable keys.now bits.now waiver_ids.now waiver_keys.now rule (progress_of state found_ids.old found_keys.old) }
+    ensures { progress_of result found_ids.new found_keys.new
         ≡ served keys.now bits.now waiver_ids.now waiver_keys.now rule
-        (progress_told state found_ids.old found_keys.old) }
+        (progress_of state found_ids.old found_keys.old) }
 {
     let id = rule.id;
     let next = u64::from(id) + 1;
@@ -70,7 +70,7 @@ fn gather(
         live: state.live,
         hidden: state.hidden,
     };
-    if state.mode.bounds() {
+    if state.mode == state::BOUNDING {
         return state::counted(state, next, end, widen(rule, at));
     }
     let list = taken(state.m, keys, bits, state.n);
@@ -97,21 +97,20 @@ fn own_step(
     found_keys: &mut [u32],
     state: RunState,
 ) -> RunState
-    requires { RulesReady keys.now bits.now waiver_ids.now waiver_keys.now (progress_told state found_ids.old found_keys.old) }
-    ensures { progress_told result found_ids.new found_keys.new
+    requires { RulesReady keys.now bits.now waiver_ids.now waiver_keys.now (progress_of state found_ids.old found_keys.old) }
+    ensures { progress_of result found_ids.new found_keys.new
         ≡ rule_step keys.now bits.now waiver_ids.now waiver_keys.now rule
-        (progress_told state found_ids.old found_keys.old) }
+        (progress_of state found_ids.old found_keys.old) }
 {
     let id = rule.id;
-    let stopped = state.refusal.is_some();
-    if stopped {
+    if state.refusal != 0 {
         return state;
     }
-    if state.mode.rests() {
+    if state.mode == state::RESTING {
         return state;
     }
     if !may_come(rule, state) {
-        return state::refused(state, Refusal::Rules);
+        return state::refused(state, Refusal::Rules.into());
     }
     if waivers::waiver_is_wrong(id, waiver_ids, state) {
         return state::faulty_from(state, u64::from(id) + 1);
@@ -139,10 +138,10 @@ pub fn step(
     found_keys: &mut [u32],
     state: RunState,
 ) -> RunState
-    requires { TableReady keys.now bits.now waiver_ids.now waiver_keys.now (progress_told state found_ids.old found_keys.old) }
-    ensures { progress_told result found_ids.new found_keys.new
+    requires { TableReady keys.now bits.now waiver_ids.now waiver_keys.now (progress_of state found_ids.old found_keys.old) }
+    ensures { progress_of result found_ids.new found_keys.new
         ≡ table_step keys.now bits.now waiver_ids.now waiver_keys.now rule
-        (progress_told state found_ids.old found_keys.old) }
+        (progress_of state found_ids.old found_keys.old) }
 {
     let from = state.offset;
     let end = from + state.waivers;

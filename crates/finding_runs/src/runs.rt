@@ -1,11 +1,10 @@
 // The runs of findings: how the first begins, which run comes after a run, and what the last answers.
 ghost use Rattle.std.specs.Prelude.{◌≡◌};
-ghost use Rattle.definitions.specs.Answered.{as_found};
-ghost use Rattle.finding_runs.specs.Run.{numbers_told, number_or_zero, bounding, begin_refusal, begin_of, own_at, after_run, answer_of};
+ghost use Rattle.finding_runs.specs.Run.{bounding, begin_refusal, begin_of, own_at, after_run, answer_of};
 
 use crate::state;
-use crate::state::{Mode, RunState};
-use definitions::answers::FindingCounts;
+use crate::state::RunState;
+use definitions::Found;
 use definitions::refusal::Refusal;
 use list::acceptance::accept;
 use offices::own;
@@ -18,22 +17,15 @@ const NO_ROWS: OwnRows = OwnRows {
 };
 
 // The refusals 21, 1 and 4.
-fn begin_refusal(
-    office: u32,
-    m: u32,
-    s: u32,
-    keys: &[u32],
-    bits: &[u32],
-    n: usize,
-) -> Option<Refusal>
-    ensures { number_or_zero result ≡ begin_refusal office m s keys.now bits.now n }
+fn begin_refusal(office: u32, m: u32, s: u32, keys: &[u32], bits: &[u32], n: usize) -> u64
+    ensures { result ≡ begin_refusal office m s keys.now bits.now n }
 {
     if 1 < office {
-        return Some(Refusal::Office);
+        return Refusal::Office.into();
     }
     match accept(m, s, keys, bits, n) {
-        Ok(_) => None,
-        Err(refusal) => Some(refusal),
+        Ok(_) => 0,
+        Err(refusal) => refusal.into(),
     }
 }
 
@@ -52,20 +44,21 @@ pub fn begin(
     room_ids: usize,
     room_keys: usize,
 ) -> RunState
-    ensures { numbers_told result ≡ bounding 0 (begin_of m s keys.now bits.now n office
+    ensures { result ≡ bounding 0 (begin_of m s keys.now bits.now n office
         (own_at m s keys.now bits.now n office offices.now ids.now waived.now rows) room_ids room_keys) }
 {
     let refusal = begin_refusal(office, m, s, keys, bits, n);
-    let own = match refusal {
-        None => own::own_rows(m, office, offices, ids, waived, rows),
-        Some(_) => Some(NO_ROWS),
+    let own = if refusal == 0 {
+        own::own_rows(m, office, offices, ids, waived, rows)
+    } else {
+        Some(NO_ROWS)
     };
     let rows = own.unwrap_or(NO_ROWS);
     RunState {
         m,
         s,
         n,
-        mode: Mode::Bounding,
+        mode: state::BOUNDING,
         refusal,
         next: 0,
         faulty: own.is_none(),
@@ -81,42 +74,55 @@ pub fn begin(
 
 // A run is over: 14 is decided, and 12 where the findings were counted; then comes the run that counts, if the bound is past the room, or that writes.
 pub fn begin_next(state: RunState) -> RunState
-    ensures { numbers_told result ≡ after_run (numbers_told state) }
+    ensures { result ≡ after_run state }
 {
     let room = state.room;
-    if state.refusal.is_some() {
+    if state.refusal != 0 {
         return state;
     }
     if state.faulty {
-        return state::refused(state, Refusal::Waivers);
+        return state::refused(state, Refusal::Waivers.into());
     }
     if state.passed < state.waivers {
-        return state::refused(state, Refusal::Waivers);
+        return state::refused(state, Refusal::Waivers.into());
     }
-    if state.mode.bounds() {
+    if state.mode == state::BOUNDING {
         if room < state.live {
             return state::restarted(state, 0);
         }
         return state::rested(state);
     }
     if room < state.live {
-        return state::refused(state, Refusal::AnswerRoom(state.live as u64));
+        return state::refused(state, Refusal::AnswerRoom(state.live as u64).into());
     }
     state::restarted(state, room)
 }
 
-// With 12 the findings are told that need places.
-pub fn answer(state: RunState) -> Result<FindingCounts, Refusal>
-    ensures { as_found result ≡ answer_of (numbers_told state) }
+// With 12 live is the number of places needed, and hidden is 0.
+pub fn answer(state: RunState) -> Found
+    ensures { result ≡ answer_of state }
 {
-    let Some(refusal) = state.refusal else {
-        return Ok(FindingCounts {
-            live: state.live,
-            hidden: state.hidden,
-        });
-    };
-    match refusal {
-        Refusal::AnswerRoom(_) => Err(Refusal::AnswerRoom(state.live as u64)),
-        _ => Err(refusal),
+    let refusal = state.refusal;
+    let live = state.live as u64;
+    let hidden = state.hidden as u64;
+    if refusal == 0 {
+        return Found {
+            refusal,
+            live,
+            hidden,
+        };
+    }
+    let full: u64 = Refusal::AnswerRoom(live).into();
+    if refusal == full {
+        return Found {
+            refusal,
+            live,
+            hidden: 0,
+        };
+    }
+    Found {
+        refusal,
+        live: 0,
+        hidden: 0,
     }
 }
