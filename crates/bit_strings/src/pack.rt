@@ -33,16 +33,17 @@ pub fn next_bit(values: &[u32], at: usize, leaves: bool) -> Bit
     requires { at ≤ length values.now }
     ensures { Picked leaves values.now at result }
 {
+    // The place after goes along, and is counted before the bit is looked at. With `place + 1` at the return and the length at the end, the compiler
+    // carries the places of all eight bits of a byte through each turn, and packing takes 1.4 times as many instructions.
+    let mut after = at;
     for place in at..values.len() {
-        if let Some(bit) = bit_of(values[place], leaves) {
-            let after = place + 1;
+        let found = bit_of(values[place], leaves);
+        after += 1;
+        if let Some(bit) = found {
             return Bit { bit, after };
         }
     }
-    Bit {
-        bit: false,
-        after: values.len(),
-    }
+    Bit { bit: false, after }
 }
 
 #[derive(Clone, Copy)]
