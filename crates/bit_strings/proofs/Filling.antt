@@ -1,6 +1,6 @@
 -- The loop that writes the records of a pair: each turn writes the next one. Rests on Passing and Bitwise.
 use Prim.Native.Nat.{ℕ, suc, ◌+◌, ◌^◌, ◌≤◌, ◌<◌}
-use mathlib.Core.Path.{◌≡◌, refl, sym, ap, ap₂, ◌∙◌}
+use mathlib.Core.Path.{◌≡◌, refl, sym, ap, ◌∙◌}
 use mathlib.Core.Bool.{Bool, true, false, cond}
 use mathlib.Core.List.{List, [], ◌∷◌}
 use native.Mathlib.Numerals.{add-one}
@@ -12,7 +12,7 @@ use Rattle.keys.proofs.Cases.{split}
 use Rattle.definitions.specs.List.{Record, record_of, keys_of, values_of}
 use Rattle.definitions.specs.BitStrings.{bits_in, key_after, leaf_value, inner_value, records_from, records_of_pair}
 use Rattle.bit_strings.specs.Steps.{next_bit, Fits}
-use Rattle.bit_strings.proofs.NextBit.{drop-on, told_one}
+use Rattle.bit_strings.proofs.NextBit.{drop-on}
 use Rattle.bit_strings.proofs.Passing.{records_past, records_leaf, records_inner}
 use Rattle.bit_strings.proofs.Bitwise.{one_more}
 
@@ -98,20 +98,19 @@ module _ {m : ℕ} {nodes leaves : List ℕ} {n : ℕ} {keys₀ bits₀ keys bit
     pub next : First m key (drop i (bits_in nodes)) (drop j (bits_in leaves)) (get_or (records_of_pair m nodes leaves) i nothing) (drop (suc i) (records_of_pair m nodes leaves))
     next = first m key (drop i (bits_in nodes)) (drop j (bits_in leaves)) (get_or (records_of_pair m nodes leaves) i nothing) (drop (suc i) (records_of_pair m nodes leaves)) (f.left ∙ splits)
 
-    pub filling_turn : (leaf : Bool) (value after : ℕ) → cond leaf 1 0 ≡ next_bit (drop i (bits_in nodes))
-        → value ≡ cond leaf (leaf_value (drop j (bits_in leaves))) inner_value
-        → after ≡ key_after m key leaf
-        → Filling m nodes leaves n keys₀ bits₀ (set keys i key) (set bits i value) after (i + 1) (j + cond leaf 1 0)
-    filling_turn leaf value after digit_is value_is after_is =
-        let leaf_is : leaf ≡ eqb (next_bit (drop i (bits_in nodes))) 1 = sym (told_one leaf _ digit_is) in
+    pub filling_turn : (leaf value after : ℕ) → leaf ≡ next_bit (drop i (bits_in nodes))
+        → value ≡ cond (eqb leaf 1) (leaf_value (drop j (bits_in leaves))) inner_value
+        → after ≡ key_after m key (eqb leaf 1)
+        → Filling m nodes leaves n keys₀ bits₀ (set keys i key) (set bits i value) after (i + 1) (j + leaf)
+    filling_turn leaf value after leaf_is value_is after_is =
         let d = next.digit in
         let w = f.fewer in
         let ks = keys_many in
         let bs = bits_many in
         let r = fits.roomy in
         let record_is : get_or (records_of_pair m nodes leaves) i nothing ≡ record_of key value =
-        next.is ∙ ap (record_of key) (sym (value_is ∙ ap (λ b. cond b (leaf_value (drop j (bits_in leaves))) inner_value) leaf_is)) in
-        let leaves-on : drop (cond leaf 1 0) (drop j (bits_in leaves)) ≡ drop (j + cond leaf 1 0) (bits_in leaves) = drop-drop (cond leaf 1 0) j (bits_in leaves) in
+        next.is ∙ ap (record_of key) (sym (value_is ∙ ap (λ b. cond (eqb b 1) (leaf_value (drop j (bits_in leaves))) inner_value) leaf_is)) in
+        let leaves-on : drop leaf (drop j (bits_in leaves)) ≡ drop (j + leaf) (bits_in leaves) = drop-drop leaf j (bits_in leaves) in
         record {
           most = omega arith;
           fewer = omega arith;
@@ -119,7 +118,7 @@ module _ {m : ℕ} {nodes leaves : List ℕ} {n : ℕ} {keys₀ bits₀ keys bit
           same_bits = length-set bits i value ∙ f.same_bits;
           left =
               (λ t. records_from m (after_is t) (sym (drop-on (bits_in nodes) i) t) (sym leaves-on t))
-              ∙ ap₂ (λ b d. records_from m (key_after m key b) (drop 1 (drop i (bits_in nodes))) (drop d (drop j (bits_in leaves)))) leaf_is digit_is
+              ∙ ap (λ b. records_from m (key_after m key (eqb b 1)) (drop 1 (drop i (bits_in nodes))) (drop b (drop j (bits_in leaves)))) leaf_is
               ∙ sym next.rest
               ∙ ap (λ k. drop k (records_of_pair m nodes leaves)) (sym (add-one i));
           filled_keys =

@@ -1,18 +1,18 @@
 // From a block to the one that comes next in key order.
-ghost use Rattle.std.specs.Prelude.{◌≡◌, ◌+◌, ◌≤◌, ◌<◌, ◌^◌, drop};
+ghost use Rattle.std.specs.Prelude.{◌≡◌, ◌+◌, ◌≤◌, ◌<◌, ◌^◌, drop, eqb};
 ghost use Rattle.definitions.specs.BitStrings.{bits_in, key_after};
 ghost use Rattle.bit_strings.specs.Steps.{passed};
 
 use crate::bits;
 use keys::zeros;
 
-// The key after a leaf or an inner node.
-pub fn key_after(m: u32, key: u32, leaf: bool) -> u32
+// The key after a leaf (1) or an inner node (every other number).
+pub fn key_after(m: u32, key: u32, leaf: u32) -> u32
     requires { (m ≤ 10) × (key < 5 ^ m) }
-    ensures { result ≡ key_after m key leaf }
+    ensures { result ≡ key_after m key (eqb leaf 1) }
 {
     let step = zeros::keys_in(m, key);
-    if leaf {
+    if leaf == 1 {
         return key + step;
     }
     key + step / 5
