@@ -97,7 +97,8 @@ fn fill_pixels(bits: &[u32], raster: &mut [u8], wide: usize, at: usize, place: u
     fill_pixel(raster, wide, place + wide + 1, se);
 }
 
-// A block whose side is a type: nearly all nodes have side 2, 4 or 8, so these are filled without recursion.
+// A block whose side is a type: nearly all nodes have side 2, 4, 8 or 16, so these are filled without recursion, and their leaves without a call for
+// each row.
 trait Block {
     ghost SIDE: { ℕ };
 
@@ -144,6 +145,22 @@ impl Block for FourByFour {
 
     fn fill_node(bits: &[u32], raster: &mut [u8], wide: usize, at: usize, place: usize) -> usize {
         fill_quadrants::<TwoByTwo>(bits, raster, wide, at, place)
+    }
+}
+
+struct EightByEight;
+
+impl Block for EightByEight {
+    ghost SIDE = { 8 };
+
+    const SIDE: usize = 8;
+
+    fn fill_leaf(raster: &mut [u8], wide: usize, place: usize, feature: u8) {
+        fill_small::<8>(raster, wide, place, feature);
+    }
+
+    fn fill_node(bits: &[u32], raster: &mut [u8], wide: usize, at: usize, place: usize) -> usize {
+        fill_quadrants::<FourByFour>(bits, raster, wide, at, place)
     }
 }
 
@@ -195,8 +212,8 @@ fn fill_node(
         if check::is_leaf(found) {
             fill_square(raster, wide, corner, half, feature_of(found));
             next += 1;
-        } else if half == 8 {
-            next = fill_quadrants::<FourByFour>(bits, raster, wide, next, corner);
+        } else if half == 16 {
+            next = fill_quadrants::<EightByEight>(bits, raster, wide, next, corner);
         } else {
             next = fill_node(bits, raster, wide, next, corner, half);
         }
@@ -204,7 +221,7 @@ fn fill_node(
     next
 }
 
-// The raster of an accepted list.
+// The raster of an accepted list. Of a map of 16 by 16 pixels the root itself is a node whose side is a type.
 pub fn fill_raster(list: &Accepted<'_>, raster: &mut [u8])
     requires { length raster.old ≡ 2 ^ list.now.m * 2 ^ list.now.m }
     ensures { raster.new ≡ features_of_rows (picture_listed list.now) 0 0 (2 ^ list.now.m) (2 ^ list.now.m) }
@@ -213,6 +230,8 @@ pub fn fill_raster(list: &Accepted<'_>, raster: &mut [u8])
     let own = list.bits[0];
     if check::has_one_slot(own) {
         fill_square(raster, side, 0, side, feature_of(own));
+    } else if side == 16 {
+        let _end = fill_quadrants::<EightByEight>(list.bits, raster, side, 0, 0);
     } else {
         let _end = fill_node(list.bits, raster, side, 0, 0, side);
     }

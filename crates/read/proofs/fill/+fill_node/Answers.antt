@@ -7,7 +7,7 @@ use Rattle.read.specs.Fill.{Shows}
 use Rattle.read.proofs.Shown.{shows_room}
 use Rattle.read.proofs.FillTurn.{fill_reached_none, reached_all, next_room, next_slots, leaf_asked, child_asked, leaf_turn, node_turn}
 use Rattle.read.proofs.fill.+fill_node.Goals as goal
-use Rattle.read.proofs.fill.+fill_node.Goals.{then-is_leaf, else-is_leaf+then-half-eq8, else-is_leaf+else-half-eq8}
+use Rattle.read.proofs.fill.+fill_node.Goals.{then-is_leaf, else-is_leaf+then-half-eq16, else-is_leaf+else-half-eq16}
 
 -- half of the side is less
 less : (side t : ℕ) {p : Picture} {k r c κ : ℕ} {bits : List ℕ} {at wide place long : ℕ} → side ≡ t → Shows p (suc k) r c κ bits at wide place side long → side / 2 < t
@@ -36,7 +36,7 @@ overflow_add-next-then-is_leaf t c = let h = next_room c.loop-d.invariant c.requ
 
 pub fill_quadrants-next-requires : goal.fill_quadrants-next-requires
 fill_quadrants-next-requires t c =
-    rw c.if-half-eq8.true at
+    rw c.if-half-eq16.true at
     (child_asked c.loop-d.invariant c.requires (omega arith) _ c.corner_of-corner.ensures (sym c.is_leaf.ensures ∙ c.if-is_leaf.false))
 
 pub fill_node-next-requires : goal.fill_node-next-requires
@@ -51,8 +51,8 @@ loop-d-preserved t c =
     let slot = sym c.is_leaf.ensures in
     elim c.if-is_leaf.branch [
       | then-is_leaf w ↦ leaf_turn c.loop-d.invariant _ _ _ _ (omega arith) corner (slot ∙ w.if-is_leaf.true) w.feature_of.ensures (w.raster-is ∙ w.fill_square.ensures) w.next-is
-      | else-is_leaf+then-half-eq8 w ↦ node_turn c.loop-d.invariant _ _ _ _ _ _ (omega arith) corner w.if-half-eq8.true (slot ∙ w.if-is_leaf.false) w.fill_quadrants-next.ensures w.raster-is w.next-is
-      | else-is_leaf+else-half-eq8 w ↦ node_turn c.loop-d.invariant _ _ _ _ _ _ (omega arith) corner refl (slot ∙ w.if-is_leaf.false) w.fill_node-next.ensures w.raster-is w.next-is
+      | else-is_leaf+then-half-eq16 w ↦ node_turn c.loop-d.invariant _ _ _ _ _ _ (omega arith) corner w.if-half-eq16.true (slot ∙ w.if-is_leaf.false) w.fill_quadrants-next.ensures w.raster-is w.next-is
+      | else-is_leaf+else-half-eq16 w ↦ node_turn c.loop-d.invariant _ _ _ _ _ _ (omega arith) corner refl (slot ∙ w.if-is_leaf.false) w.fill_node-next.ensures w.raster-is w.next-is
     ]
 
 pub returns : goal.returns

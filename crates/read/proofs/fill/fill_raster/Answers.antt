@@ -10,7 +10,7 @@ use Rattle.definitions.specs.Bits.{feature_of}
 use Rattle.definitions.specs.Window.{features_of_rows}
 use Rattle.list.specs.Check.{one_slot}
 use Rattle.list.specs.Own.{OwnList, shown_by}
-use Rattle.read.specs.Fill.{rectangle_painted, Shows, NodeFilled}
+use Rattle.read.specs.Fill.{rectangle_painted, Shows, ShowsNode, NodeFilled}
 use Rattle.list.proofs.Own.{own_values}
 use Rattle.read.proofs.Shown.{shows_room, leaf_painted, node_asked, node_filled}
 use Rattle.read.proofs.Rows.{whole_painted}
@@ -69,6 +69,24 @@ pub returns-then-has_one_slot : goal.returns-then-has_one_slot
 returns-then-has_one_slot c =
     leaf_end c.args.list.now.own c.power_of_two-side.ensures c.requires _ _ refl _ (sym c.has_one_slot.ensures ∙ c.if-has_one_slot.true) c.feature_of.ensures c.fill_square.ensures
 
-pub returns-else-has_one_slot : goal.returns-else-has_one_slot
-returns-else-has_one_slot c =
+-- the same where the side is known by a number
+module _ {bits : List ℕ} {at wide place side known : ℕ} (is : side ≡ known) where
+  known_asked : {long : ℕ} → ShowsNode bits at wide place side long → ShowsNode bits at wide place known long
+  known_asked s = rw (← is) s
+
+  known_filled : {before after : List ℕ} {next : ℕ} → NodeFilled bits at wide place known before after next → NodeFilled bits at wide place side before after next
+  known_filled f = rw is f
+
+pub fill_quadrants-end-requires : goal.fill_quadrants-end-requires
+fill_quadrants-end-requires c =
+    known_asked c.if-side-eq16.true
+    (node_asked (root_shows c.args.list.now.own c.power_of_two-side.ensures c.requires) (sym c.has_one_slot.ensures ∙ c.if-has_one_slot.false))
+
+pub returns-then-side-eq16 : goal.returns-then-side-eq16
+returns-then-side-eq16 c =
+    node_end c.args.list.now.own c.power_of_two-side.ensures c.requires _ _ refl _ (sym c.has_one_slot.ensures ∙ c.if-has_one_slot.false)
+    (known_filled c.if-side-eq16.true c.fill_quadrants-end.ensures)
+
+pub returns-else-side-eq16 : goal.returns-else-side-eq16
+returns-else-side-eq16 c =
     node_end c.args.list.now.own c.power_of_two-side.ensures c.requires _ _ refl _ (sym c.has_one_slot.ensures ∙ c.if-has_one_slot.false) c.fill_node-end.ensures
