@@ -1,5 +1,5 @@
 -- What begins, runs over the questions and answers is the batch of specification S9: the answer and what the two slices hold afterwards. Rests on Fold and
--- Beginning, and on laws' First and Buffer.
+-- OfBatch, and on laws' First and Buffer.
 use Prim.Native.Nat.{ℕ, ◌+◌, ◌≤◌, min}
 use mathlib.Core.Path.{◌≡◌, refl, sym, ap, subst, ◌∙◌}
 use mathlib.Core.List.{List, [], ◌∷◌, map}
@@ -16,11 +16,10 @@ use Rattle.definitions.specs.declared.Question.{Question}
 use Rattle.definitions.specs.declared.Counted.{Counted}
 use Rattle.laws.proofs.First.{first_none, accepted_done, accepted_left}
 use Rattle.laws.proofs.Buffer.{sets_over}
-use Rattle.batch.specs.Run.{BatchNumbers, AcceptedMap, Answering, answering_of, at_place, answering_refusal, accepted_begins, answering_begins, answered, batch_run, BatchReady, answering_ends}
-use mathlib.Core.Bool.{cond}
-use lib.Dec.{eqb}
-use Rattle.batch.proofs.Beginning.{answer_done}
+use Rattle.batch.specs.Run.{AcceptedMap, Answering, answering_of, at_place, answering_refusal, answering_begins, answered, batch_run, BatchReady, answering_ends, OfBatch}
+use Rattle.batch.specs.declared.begin.BatchState.{BatchState}
 use Rattle.batch.proofs.Fold.{step_answers, step_stays, run_nil, run_cons}
+use Rattle.batch.proofs.OfBatch.{of_batch}
 
 module _ (keys bits : List ℕ) where
   -- a refused batch stays as it is
@@ -37,7 +36,7 @@ module _ (keys bits : List ℕ) where
       (sets p.refusals p.state.place (map (refusal_to p.state.m p.state.s keys bits p.state.n) questions))
       (sets p.values p.state.place (map (value_to p.state.m p.state.s keys bits p.state.n) questions))
 
-  progress : {a b : ℕ} {l l' v v' : List ℕ} (st : BatchNumbers) → a ≡ b → l ≡ l' → v ≡ v' → answering_of (at_place a st) l v ≡ answering_of (at_place b st) l' v'
+  progress : {a b : ℕ} {l l' v v' : List ℕ} (st : BatchState) → a ≡ b → l ≡ l' → v ≡ v' → answering_of (at_place a st) l v ≡ answering_of (at_place b st) l' v'
   progress st e f g i =
       record {
         state = record { m = st.m; s = st.s; n = st.n; refusal = st.refusal; questions = st.questions; place = e i };
@@ -61,7 +60,7 @@ module _ (keys bits : List ℕ) where
       value = value_to p.state.m p.state.s keys bits p.state.n
 
 module _ (m s : ℕ) (keys bits : List ℕ) (n : ℕ) (questions : List Question) (refusals values : List ℕ) where
-  abbrev start : BatchNumbers
+  abbrev start : BatchState
   start = answering_begins m s keys bits n (length questions) (length refusals) (length values)
 
   -- the state begins with the batch's refusal
@@ -76,7 +75,7 @@ module _ (m s : ℕ) (keys bits : List ℕ) (n : ℕ) (questions : List Question
       (record { settings = none.0; list = not-false (is_list m s keys bits n) none.1.0 }, ltb-false (room refusals values) (length questions) none.1.1.0)
 
   -- the questions may come
-  pub start_ready : (r : BatchNumbers) → r ≡ start → BatchReady keys bits (length questions) (answering_of r refusals values)
+  pub start_ready : (r : BatchState) → r ≡ start → BatchReady keys bits (length questions) (answering_of r refusals values)
   start_ready r e =
       subst (λ st. BatchReady keys bits (length questions) (answering_of st refusals values)) (sym e)
       (record {
@@ -85,7 +84,7 @@ module _ (m s : ℕ) (keys bits : List ℕ) (n : ℕ) (questions : List Question
       })
 
   -- the three calls that make a batch: it begins, runs over the questions, and answers
-  pub record BatchMade (begun done : BatchNumbers) (result : Counted) (after after' : List ℕ) : Type 0 where
+  pub record BatchMade (begun done : BatchState) (result : Counted) (after after' : List ℕ) : Type 0 where
     pub begins_with : begun ≡ start
     pub runs : answering_of done after after' ≡ batch_run keys bits questions (answering_of begun refusals values)
     pub ends_with : result ≡ answering_ends done
@@ -126,7 +125,7 @@ module _ (m s : ℕ) (keys bits : List ℕ) (n : ℕ) (questions : List Question
       × (after' ≡ batch_values m s keys bits n questions refusals values)
 
   -- what the progress at the end says
-  ends_at : (place : ℕ) (l l' : List ℕ) {done : BatchNumbers} {result : Counted} {after after' : List ℕ} → answering_of done after after' ≡ answering_of (at_place place start) l l'
+  ends_at : (place : ℕ) (l l' : List ℕ) {done : BatchState} {result : Counted} {after after' : List ℕ} → answering_of done after after' ≡ answering_of (at_place place start) l l'
       → result ≡ answering_ends done
       → l ≡ batch_refusals m s keys bits n questions refusals values
       → l' ≡ batch_values m s keys bits n questions refusals values
@@ -134,7 +133,7 @@ module _ (m s : ℕ) (keys bits : List ℕ) (n : ℕ) (questions : List Question
   ends_at place l l' e answers f g =
       (answers ∙ ap (λ p. answering_ends p.state) e ∙ answer_batch place, ap (λ p. p.refusals) e ∙ f, ap (λ p. p.values) e ∙ g)
 
-  pub batch_law : {begun done : BatchNumbers} {result : Counted} {after after' : List ℕ} → BatchMade begun done result after after' → Promised result after after'
+  pub batch_law : {begun done : BatchState} {result : Counted} {after after' : List ℕ} → BatchMade begun done result after after' → Promised result after after'
   batch_law made =
       let runs = made.runs ∙ ap (λ st. batch_run keys bits questions (answering_of st refusals values)) made.begins_with in
       equal (batch_refusal m s keys bits n questions refusals values) 0
@@ -142,30 +141,6 @@ module _ (m s : ℕ) (keys bits : List ℕ) (n : ℕ) (questions : List Question
       (λ refused. ends_at 0 refusals values (runs ∙ run_refused keys bits questions (answering_of start refusals values) (λ z. refused (sym begins ∙ z))) made.ends_with
       (refusals_stay refused) (values_stay refused))
 
-  -- a batch that is accepted
-  module _ (zero : answering_refusal m s keys bits n (length questions) (length refusals) (length values) ≡ 0) where
-    begun_is : accepted_begins m s n (length questions) ≡ start
-    begun_is i = record { m = m; s = s; n = n; refusal = sym zero i; questions = length questions; place = 0 }
-
-    pub accepted_ready : BatchReady keys bits (length questions) (answering_of (accepted_begins m s n (length questions)) refusals values)
-    accepted_ready = start_ready _ begun_is
-
-    pub accepted_law : (after after' : List ℕ)
-        → answering_of (at_place (length questions) (accepted_begins m s n (length questions))) after after'
-        ≡ batch_run keys bits questions (answering_of (accepted_begins m s n (length questions)) refusals values)
-        → Promised (record { refusal = 0; count = length questions }) after after'
-    accepted_law after after' runs = batch_law (record { begins_with = begun_is; runs = runs; ends_with = answer_done (at_place (length questions) (accepted_begins m s n (length questions))) refl })
-
-  -- and one that is refused
-  pub refused_law : (refusal count : ℕ) → refusal ≡ answering_refusal m s keys bits n (length questions) (length refusals) (length values) → (refusal ≡ 0 → ⊥)
-      → count ≡ cond (eqb (answering_refusal m s keys bits n (length questions) (length refusals) (length values)) 12) (length questions) 0
-      → Promised (record { refusal = refusal; count = count }) refusals values
-  unfolding answering_ends
-  refused_law refusal count e not-zero f =
-      let no : start.refusal ≡ 0 → ⊥ = λ z. not-zero (e ∙ z) in
-      batch_law
-      (record {
-        begins_with = refl;
-        runs = sym (run_refused keys bits questions (answering_of start refusals values) no);
-        ends_with = λ i. record { refusal = e i; count = (f ∙ sym (accepted_left {refusal = start.refusal} (length questions) (cond (eqb start.refusal 12) (length questions) 0) no)) i };
-      })
+  -- so the answer has one of a batch's numbers
+  pub answer_of_batch : {begun done : BatchState} {result : Counted} {after after' : List ℕ} → BatchMade begun done result after after' → OfBatch result
+  answer_of_batch made = subst OfBatch (sym (batch_law made).0) (of_batch m s keys bits n questions refusals values)

@@ -1,6 +1,6 @@
 -- A batch, as the code goes: how it begins, what a question does to the state and to the two answer slices, and what it answers in the end. Only contracts
 -- need these; that they give the batch of specification S9 is proved in proofs/.
-use Rattle.std.specs.Prelude.{ℕ, ◌+◌, ◌≤◌, min, ◌≡◌, true, false, cond, Result, Ok, Err, List, [], ◌∷◌, length, set, ltb, eqb}
+use Rattle.std.specs.Prelude.{ℕ, ◌+◌, ◌≤◌, min, ◌≡◌, Bool, true, false, ◌||◌, cond, Result, Ok, Err, List, [], ◌∷◌, length, set, ltb, eqb}
 use Rattle.definitions.specs.Read.{is_list}
 use Rattle.definitions.specs.Refusal.{◌gives◌, first, accepted, bad_settings, no_list}
 use Rattle.definitions.specs.Calls.Batch.{refusal_to, value_to}
@@ -8,15 +8,7 @@ use Rattle.definitions.specs.declared.Question.{Question}
 use Rattle.definitions.specs.declared.Counted.{Counted}
 use Rattle.definitions.specs.declared.refusal.Refusal.{Refusal}
 use Rattle.definitions.specs.Refused.{refusal_number}
-
--- where a batch stands, in numbers: the refusal's number, or 0; how many questions there are, and the place of the next
-pub record BatchNumbers : Type 0 where
-  pub m : ℕ
-  pub s : ℕ
-  pub n : ℕ
-  pub refusal : ℕ
-  pub questions : ℕ
-  pub place : ℕ
+use Rattle.batch.specs.declared.begin.BatchState.{BatchState}
 
 -- what a question is answered, in numbers: the refusal's number, or 0, and the value, which is 0 where it is refused
 pub record ReplyNumbers : Type 0 where
@@ -34,11 +26,11 @@ pub record AcceptedMap (m s : ℕ) (keys bits : List ℕ) (n : ℕ) : Type 0 whe
 
 -- the state, and what the two answer slices hold
 pub record Answering : Type 0 where
-  pub state : BatchNumbers
+  pub state : BatchState
   pub refusals : List ℕ
   pub values : List ℕ
 
-abbrev pub answering_of : BatchNumbers → List ℕ → List ℕ → Answering
+abbrev pub answering_of : BatchState → List ℕ → List ℕ → Answering
 answering_of state refusals values = record { state = state; refusals = refusals; values = values }
 
 unfoldable pub answering_refusal : ℕ → ℕ → List ℕ → List ℕ → ℕ → ℕ → ℕ → ℕ → ℕ
@@ -49,7 +41,7 @@ answering_refusal m s keys bits n questions room_refusals room_values =
     ∷ ltb (min room_refusals room_values) questions gives 12
     ∷ [])
 
-abbrev pub answering_begins : ℕ → ℕ → List ℕ → List ℕ → ℕ → ℕ → ℕ → ℕ → BatchNumbers
+abbrev pub answering_begins : ℕ → ℕ → List ℕ → List ℕ → ℕ → ℕ → ℕ → ℕ → BatchState
 answering_begins m s keys bits n questions room_refusals room_values =
     record {
       m = m;
@@ -60,12 +52,8 @@ answering_begins m s keys bits n questions room_refusals room_values =
       place = 0;
     }
 
--- an accepted batch that begins
-abbrev pub accepted_begins : (m s n questions : ℕ) → BatchNumbers
-accepted_begins m s n questions = record { m = m; s = s; n = n; refusal = 0; questions = questions; place = 0 }
-
 -- the same batch, with its next place
-abbrev pub at_place : ℕ → BatchNumbers → BatchNumbers
+abbrev pub at_place : ℕ → BatchState → BatchState
 at_place place st =
     record { m = st.m; s = st.s; n = st.n; refusal = st.refusal; questions = st.questions; place = place }
 
@@ -101,6 +89,15 @@ module _ (keys bits : List ℕ) where
     pub fine : p.state.refusal ≡ 0 → BatchFine more p
 
 -- what the call answers
-unfoldable pub answering_ends : BatchNumbers → Counted
+unfoldable pub answering_ends : BatchState → Counted
 answering_ends st =
     record { refusal = st.refusal; count = accepted st.refusal st.questions (cond (eqb st.refusal 12) st.questions 0) }
+
+-- the numbers that a batch answers: 0, and its three refusals
+abbrev pub is_batch_number : ℕ → Bool
+is_batch_number number = eqb number 0 || (eqb number 1 || (eqb number 4 || eqb number 12))
+
+-- an answer of a batch has one of these numbers; places are needed with 12 alone
+pub record OfBatch (counted : Counted) : Type 0 where
+  pub number : is_batch_number counted.refusal ≡ true
+  pub places : (counted.refusal ≡ 0 → ⊥) → (counted.refusal ≡ 12 → ⊥) → counted.count ≡ 0

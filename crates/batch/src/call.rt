@@ -2,11 +2,25 @@
 ghost use Rattle.std.specs.Prelude.{◌≡◌};
 ghost use Rattle.definitions.specs.Answered.{as_counted};
 ghost use Rattle.definitions.specs.Calls.Batch.{batch, batch_refusals, batch_values};
+ghost use Rattle.batch.specs.Run.{OfBatch};
 
-use crate::begin::begin;
+use crate::begin::{answer, begin};
 use crate::run::run;
-use definitions::Question;
 use definitions::refusal::Refusal;
+use definitions::{Counted, Question};
+
+// The answer by the name of its refusal. Three numbers refuse a batch, so one that is none of the first two is that of the room.
+fn by_name(counted: Counted) -> Result<usize, Refusal>
+    requires { OfBatch counted }
+    ensures { as_counted result ≡ counted }
+{
+    match counted.refusal {
+        0 => Ok(counted.count as usize),
+        1 => Err(Refusal::Settings),
+        4 => Err(Refusal::List),
+        _ => Err(Refusal::AnswerRoom(counted.count)),
+    }
+}
 
 // It answers how many questions there were.
 pub fn ask_all(
@@ -24,7 +38,7 @@ pub fn ask_all(
         × (values.new ≡ batch_values m s keys.now bits.now n questions.now refusals.old values.old) }
 {
     let asked = questions.len();
-    begin(m, s, keys, bits, n, asked, refusals.len(), values.len())?;
-    run(questions, m, s, keys, bits, n, refusals, values);
-    Ok(asked)
+    let begun = begin(m, s, keys, bits, n, asked, refusals.len(), values.len());
+    let done = run(questions, keys, bits, refusals, values, begun);
+    by_name(answer(done))
 }

@@ -1,26 +1,26 @@
-// The loop over the questions of an accepted batch: `step` has all the logic of one.
+// The loop over the lent questions. Each question is copied out and given to `step`, which has all the logic.
 ghost use Rattle.std.specs.Prelude.{◌≡◌, length};
-ghost use Rattle.batch.specs.Run.{accepted_begins, at_place, answering_of, BatchReady, batch_run};
+ghost use Rattle.batch.specs.Run.{answering_of, BatchReady, batch_run};
 
-use crate::step::{give_reply, reply_to};
+use crate::begin::BatchState;
+use crate::step;
 use definitions::Question;
 
 pub fn run(
     questions: &[Question],
-    m: u32,
-    s: u32,
     keys: &[u32],
     bits: &[u32],
-    n: usize,
     refusals: &mut [u32],
     values: &mut [u32],
-)
-    requires { BatchReady keys.now bits.now (length questions.now) (answering_of (accepted_begins m s n (length questions.now)) refusals.old values.old) }
-    ensures { answering_of (at_place (length questions.now) (accepted_begins m s n (length questions.now))) refusals.new values.new
-        ≡ batch_run keys.now bits.now questions.now (answering_of (accepted_begins m s n (length questions.now)) refusals.old values.old) }
+    state: BatchState,
+) -> BatchState
+    requires { BatchReady keys.now bits.now (length questions.now) (answering_of state refusals.old values.old) }
+    ensures { answering_of result refusals.new values.new
+        ≡ batch_run keys.now bits.now questions.now (answering_of state refusals.old values.old) }
 {
-    for (place, question) in questions.iter().enumerate() {
-        let reply = reply_to(*question, m, s, keys, bits, n);
-        give_reply(reply, place, refusals, values);
+    let mut st = state;
+    for question in questions {
+        st = step::step(*question, keys, bits, refusals, values, st);
     }
+    st
 }

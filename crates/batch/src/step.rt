@@ -2,8 +2,9 @@
 ghost use Rattle.std.specs.Prelude.{◌≡◌, ◌≤◌, ◌<◌, length, set};
 ghost use Rattle.definitions.specs.Clip.{clipped_window};
 ghost use Rattle.definitions.specs.Refused.{refusal_number};
-ghost use Rattle.batch.specs.Run.{AcceptedMap, reply_told, reply_of};
+ghost use Rattle.batch.specs.Run.{AcceptedMap, reply_told, reply_of, answering_of, BatchReady, batch_step};
 
+use crate::begin::BatchState;
 use clipped::clip::clipped_window;
 use definitions::refusal::Refusal;
 use definitions::{Question, Window};
@@ -81,5 +82,30 @@ pub fn give_reply(
             refusals[place] = number_of(refusal);
             values[place] = 0;
         }
+    }
+}
+
+// The question's answer is written at its place, unless the batch is refused. A question that is refused leaves the batch as it is.
+pub fn step(
+    question: Question,
+    keys: &[u32],
+    bits: &[u32],
+    refusals: &mut [u32],
+    values: &mut [u32],
+    state: BatchState,
+) -> BatchState
+    requires { BatchReady keys.now bits.now 1 (answering_of state refusals.old values.old) }
+    ensures { answering_of result refusals.new values.new
+        ≡ batch_step keys.now bits.now question (answering_of state refusals.old values.old) }
+{
+    let place = state.place;
+    if state.refusal != 0 {
+        return state;
+    }
+    let reply = reply_to(question, state.m, state.s, keys, bits, state.n);
+    give_reply(reply, place, refusals, values);
+    BatchState {
+        place: place + 1,
+        ..state
     }
 }

@@ -1,17 +1,23 @@
--- The batch is refused, and nothing is written; or every question is answered.
-use mathlib.Core.Path.{sym}
-use Rattle.std.proofs.lemmas.Result.{err_from_is_err_and}
-use Rattle.definitions.proofs.Refused.{refusal_some}
-use Rattle.batch.proofs.Answered.{accepted_ready, accepted_law, refused_law}
+-- Begin, run and answer are called one after the other, and come to what batch_law says.
+use mathlib.Core.Path.{◌∙◌}
+use Rattle.batch.proofs.Answered.{start_ready, batch_law, answer_of_batch}
 use Rattle.batch.proofs.call.ask_all.Goals as goal
 
-pub returns-in_err-begin : goal.returns-in_err-begin
-returns-in_err-begin c =
-    let p = err_from_is_err_and c.from_residual.result c.from_residual.ensures.1 in
-    rw (p.1, p.2) (refused_law _ _ _ _ _ _ _ _ _ _ c.in_err-begin.ensures.told (refusal_some _) c.in_err-begin.ensures.needed)
+pub run-done-requires : goal.run-done-requires
+run-done-requires c =
+    let a = c.args in
+    start_ready a.m a.s a.keys.now a.bits.now a.n a.questions.now a.refusals.now a.values.now c.begin-begun.result c.begin-begun.ensures
 
-pub run-requires : goal.run-requires
-run-requires c = accepted_ready _ _ _ _ _ _ _ _ (sym c.in_ok-begin.ensures.told)
+pub by_name-requires : goal.by_name-requires
+by_name-requires c =
+    let a = c.args in
+    answer_of_batch a.m a.s a.keys.now a.bits.now a.n a.questions.now a.refusals.now a.values.now
+    (record { begins_with = c.begin-begun.ensures; runs = c.run-done.ensures; ends_with = c.answer.ensures })
 
 pub returns : goal.returns
-returns c = accepted_law _ _ _ _ _ _ _ _ (sym c.in_ok-begin.ensures.told) _ _ c.run.ensures
+returns c =
+    let a = c.args in
+    let law =
+    batch_law a.m a.s a.keys.now a.bits.now a.n a.questions.now a.refusals.now a.values.now
+    (record { begins_with = c.begin-begun.ensures; runs = c.run-done.ensures; ends_with = c.answer.ensures }) in
+    (c.by_name.ensures ∙ law.0, law.1, law.2)
