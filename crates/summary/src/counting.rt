@@ -15,6 +15,7 @@ use list::accepted_list::Accepted;
 use list::{acceptance, settings};
 
 // Refusals 1 and 4, or the list: what every call that asks a list does first.
+// It is inlined, so that the list is not copied through memory on its way back: on a short list that takes long.
 #[inline(always)]
 pub fn accept_counting<'a>(
     m: u32,
