@@ -1,5 +1,5 @@
-// One of the slices of a table: how many rows an office has, a place made and a place given up. C lends the three of a table one by one, with places past the rows that stay as they are, so the
-// number of rows goes beside each.
+// One of the slices of a table: how many rows an office has, a place made and a place given up. C lends the three of a table one by one, with places past
+// the rows that stay as they are, so the number of rows goes beside each.
 ghost use Rattle.std.specs.Prelude.{◌≡◌, ◌≤◌, ◌<◌, length, take};
 ghost use Rattle.offices.specs.Place.{opened, gap_closed, office_times};
 
