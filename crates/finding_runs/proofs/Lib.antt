@@ -24,6 +24,7 @@ pub mod AllGathered
 pub mod RunEnds
 pub mod Refusals
 pub mod OfFindings
+pub mod Told
 -- the runs together give the findings of specification S13
 pub mod TwoRuns
 pub mod Bounds

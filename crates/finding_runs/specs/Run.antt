@@ -12,6 +12,8 @@ use Rattle.list.specs.First.{first_refusal}
 use Rattle.offices.specs.Own.{own_of}
 use Rattle.offices.specs.declared.own.OwnRows.{OwnRows}
 use Rattle.walk.specs.Given.{written}
+use Rattle.finding_runs.specs.declared.state.Mode.{Mode}
+use Rattle.finding_runs.specs.declared.state.Mode.TheVariants.{Bounding, Walking, Resting}
 use Rattle.finding_runs.specs.declared.state.RunState.{RunState}
 
 -- how many waivers have a rule's id below x
@@ -27,6 +29,12 @@ keys_valid m (w ∷ ws) = valid_key m w.key && keys_valid m ws
 -- the waivers are in order, and their keys are valid
 unfoldable pub waivers_good : ℕ → List Finding → Bool
 waivers_good m waivers = findings_ascend waivers && keys_valid m waivers
+
+-- the number of a mode in a state
+abbrev pub mode_number : Mode → ℕ
+mode_number Bounding = 0
+mode_number Walking = 1
+mode_number Resting = 2
 
 -- the asking office's rows: whether the table is good, its keys included; then where they begin, and how many they are
 pub record OfficeRows : Type 0 where

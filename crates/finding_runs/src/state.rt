@@ -1,6 +1,6 @@
 // Where a run over the rules stands, and how one thing after the other changes it.
-ghost use Rattle.std.specs.Prelude.{◌≡◌};
-ghost use Rattle.finding_runs.specs.Run.{refusing, faulty_from, counting, resting, restarting};
+ghost use Rattle.std.specs.Prelude.{◌≡◌, eqb};
+ghost use Rattle.finding_runs.specs.Run.{mode_number, refusing, faulty_from, counting, resting, restarting};
 
 use finding::Sifting;
 
@@ -12,6 +12,33 @@ pub const WALKING: u32 = 1;
 
 // A run that passes over all rules.
 pub const RESTING: u32 = 2;
+
+// The three modes by name, for a caller that wants names. No state holds one: it keeps the number (decision 143).
+#[derive(Clone, Copy, PartialEq, Eq)]
+pub enum Mode {
+    // It only bounds the number of the rule's findings, by the pixels of its window.
+    Bounding,
+
+    // It walks the window, counts the findings and writes them up to its limit.
+    Walking,
+
+    // It passes over all rules.
+    Resting,
+}
+
+impl Mode {
+    pub fn bounds(self) -> bool
+        ensures { result ≡ eqb (mode_number self) 0 }
+    {
+        matches!(self, Mode::Bounding)
+    }
+
+    pub fn rests(self) -> bool
+        ensures { result ≡ eqb (mode_number self) 2 }
+    {
+        matches!(self, Mode::Resting)
+    }
+}
 
 // Mode and refusal are numbers, since the contracts speak of every number in them: every other mode walks, and a state can be refused with any number.
 // `faulty` is no flag of a value beside it: with a wrong waiver the rules are still looked at, since 13 comes before 14.
@@ -94,5 +121,22 @@ pub fn restarted(state: RunState, limit: usize) -> RunState
         live: 0,
         hidden: 0,
         ..state
+    }
+}
+
+#[cfg(test)]
+mod tests {
+    use super::*;
+
+    #[test]
+    fn tells_the_modes_apart(rt: HostRuntime) {
+        for (mode, bounds, rests) in [
+            (Mode::Bounding, true, false),
+            (Mode::Walking, false, false),
+            (Mode::Resting, false, true),
+        ] {
+            assert_eq!(rt; mode.bounds(), bounds);
+            assert_eq!(rt; mode.rests(), rests);
+        }
     }
 }
