@@ -38,8 +38,8 @@ run: kit
 	@tools/run-c target/c/example_survey <examples/survey.txt
 	@$(MAKE) --no-print-directory --old-file=lib line
 
-# The words and the documents, the proofs, the must-fail edits and the programs (rt ci), and the C tests. The last line
-# is the gate's own.
+# The words and the documents, the proofs with their tests, the must-fail edits and the programs (rt ci), and the C
+# tests. The last line is the gate's own.
 test: kit
 	@tests/run
 

@@ -1,4 +1,5 @@
--- Of the refusals only that of a small answer has the number 12. Rests on Refused of definitions.
+-- Of the refusals only that of a small answer has the number 12. No proof here needs it: it is for callers, who have the number alone. Rests on Refused of
+-- definitions.
 use Prim.Native.Nat.{ℕ}
 use mathlib.Core.Path.{◌≡◌, refl}
 use native.Mathlib.Omega.{arith}
